@@ -1,0 +1,76 @@
+// The bounds of every task of a table, and the verdict.
+ghost use Prim.Native.Nat.{_≤_, _<_};
+ghost use lib.ListN.{length};
+ghost use Rattle.model.specs.Tasks.{Sized, Timed, Payable, Lawful-rate, Each};
+ghost use Rattle.table.specs.Tables.{task-list};
+ghost use Rattle.analysis.specs.Verdicts.{Bounds-of, Verdict-of};
+use crate::curve::GreaterCurve;
+use crate::curve::GreaterDemand;
+use crate::curve::SafeCurve;
+use crate::curve::SafeDemand;
+use crate::curve::TimeCurve;
+use crate::curve::TimeDemand;
+use crate::search::search;
+use crate::verdict::Bound;
+use crate::verdict::TaskBounds;
+use crate::verdict::Verdict;
+use model::task::Task;
+use table::table::Table;
+
+// The three bounds of the task at the index.
+fn task_bounds(rate: u32, tasks: &[Task], index: usize) -> TaskBounds
+    requires within { ⌜ index < length (now tasks) ⌝ ∗ ⌜ length (now tasks) ≤ 16 ⌝ }
+    requires lawful { ⌜ Lawful-rate rate ⌝ }
+    requires sized { ⌜ Each Sized (now tasks) (length (now tasks)) ⌝ }
+    requires timed { ⌜ Each Timed (now tasks) (length (now tasks)) ⌝ }
+    requires payable { ⌜ Each (Payable 8000000000) (now tasks) (length (now tasks)) ⌝ }
+    ensures { λ r. ⌜ Bounds-of rate (now (tasks .entry)) index r ⌝ }
+{
+    let deadline = tasks[index].deadline;
+    let time = search(&TimeCurve { tasks, index }, deadline);
+    let greater = search(&GreaterCurve { tasks, index, rate }, deadline);
+    let safe = search(&SafeCurve { tasks, index, rate }, deadline);
+    TaskBounds {
+        time,
+        greater,
+        safe,
+    }
+}
+
+// The tasks are accepted if each of them has a safe bound.
+fn assess_tasks(rate: u32, tasks: &[Task]) -> Verdict
+    requires few { ⌜ length (now tasks) ≤ 16 ⌝ }
+    requires lawful { ⌜ Lawful-rate rate ⌝ }
+    requires sized { ⌜ Each Sized (now tasks) (length (now tasks)) ⌝ }
+    requires timed { ⌜ Each Timed (now tasks) (length (now tasks)) ⌝ }
+    requires payable { ⌜ Each (Payable 8000000000) (now tasks) (length (now tasks)) ⌝ }
+    ensures { λ r. ⌜ Verdict-of rate (now (tasks .entry)) r ⌝ }
+{
+    let none = Bound {
+        window: None,
+        rounds: 0,
+    };
+    let mut bounds = [TaskBounds {
+        time: none,
+        greater: none,
+        safe: none,
+    }; 16];
+    let mut accepted = true;
+    for index in 0..tasks.len() {
+        let found = task_bounds(rate, tasks, index);
+        accepted &= found.safe.window.is_some();
+        bounds[index] = found;
+    }
+    Verdict {
+        bounds,
+        count: tasks.len(),
+        accepted,
+    }
+}
+
+// The bounds of every task of a table, and whether the table is accepted.
+pub fn assess(table: &Table) -> Verdict
+    ensures { λ r. ⌜ Verdict-of (now (table .entry) .rate) (task-list (now (table .entry))) r ⌝ }
+{
+    assess_tasks(table.rate(), table.tasks())
+}

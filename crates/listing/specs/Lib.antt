@@ -1,0 +1,5 @@
+pub mod Copies
+pub mod Lines
+pub mod Listings
+pub mod Puts
+pub mod Texts

@@ -1,0 +1,5 @@
+pub mod Tasks
+pub mod Demand
+pub mod Windows
+pub mod Laws
+pub mod Cases

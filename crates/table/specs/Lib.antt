@@ -1,0 +1,11 @@
+pub mod Refusals
+pub mod Bytes
+pub mod Layout
+pub mod Reading
+pub mod Means
+pub mod Names
+pub mod Contents
+pub mod Limits
+pub mod Tables
+pub mod Loading
+pub mod Outcomes
