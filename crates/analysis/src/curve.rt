@@ -4,34 +4,44 @@ ghost use Prim.Native.Nat.{ℕ, _≤_, _<_};
 ghost use lib.ListN.{length};
 ghost use denote.Ref.{now};
 ghost use Rattle.model.specs.Tasks.{Sized, Timed, Payable, Lawful-rate, Each};
-ghost use Rattle.model.specs.Demand.{demand, time-curve, greater-curve, safe-curve};
+ghost use Rattle.model.specs.Demand.{slot-weight, safe-weight, demand, time-curve, greater-curve, safe-curve};
 use crate::search::Curve;
-use crate::weight::Draw;
-use crate::weight::DrawWeight;
-use crate::weight::Larger;
-use crate::weight::LargerWeight;
-use crate::weight::SlotWeight;
-use crate::weight::Slots;
-use crate::weight::Weight;
 use model::task::Task;
 
-// One job of the task at the index and every job of the more urgent ones, each unit counted by its weight.
-fn demand<W: Weight>(by: &W, tasks: &[Task], index: usize, window: u32) -> u64
+// What the jobs in a window ask for: slots, and energy.
+#[derive(Clone, Copy)]
+struct Sums {
+    slots: u64,
+    energy: u64,
+}
+
+// One job of the task at the index and every job of the more urgent ones; a unit's energy counts as `least` at least.
+fn demand(least: u32, tasks: &[Task], index: usize, window: u32) -> Sums
     requires within { ⌜ index < length (now tasks) ⌝ ∗ ⌜ index < 16 ⌝ }
     requires window { ⌜ 1 ≤ window ⌝ ∗ ⌜ window ≤ 100000 ⌝ }
     requires sized { ⌜ Each Sized (now tasks) (length (now tasks)) ⌝ }
     requires timed { ⌜ Each Timed (now tasks) (length (now tasks)) ⌝ }
     requires payable { ⌜ Each (Payable 8000000000) (now tasks) (length (now tasks)) ⌝ }
-    ensures sum { λ r. ⌜ r ≡ demand (weight (now (by .entry))) (now (tasks .entry)) index window ⌝ }
-    ensures small { λ r. ⌜ r ≤ 6000004000000000000 ⌝ }
+    ensures slots { λ r. ⌜ r .slots ≡ demand slot-weight (now (tasks .entry)) index window ⌝ }
+    ensures energy { λ r. ⌜ r .energy ≡ demand (safe-weight least) (now (tasks .entry)) index window ⌝ }
+    ensures small { λ r. ⌜ r .energy ≤ 6000004000000000000 ⌝ }
 {
-    let mut urgent = 0u64;
+    let mut slots = 0u64;
+    let mut energy = 0u64;
     for task in &tasks[..index] {
-        let jobs = (window + task.period - 1) / task.period;
-        urgent += jobs as u64 * (task.units as u64 * by.of(task));
+        let jobs = ((window + task.period - 1) / task.period) as u64;
+        let units = task.units as u64;
+        let unit = task.draw.max(least as u64);
+        slots += jobs * units;
+        energy += jobs * (units * unit);
     }
     let own = &tasks[index];
-    urgent + own.units as u64 * by.of(own)
+    let units = own.units as u64;
+    let unit = own.draw.max(least as u64);
+    Sums {
+        slots: slots + units,
+        energy: energy + units * unit,
+    }
 }
 
 // The slots that the demand takes.
@@ -49,7 +59,7 @@ pub(crate) impl Curve for TimeCurve<'_> as TimeDemand {
     ghost value = { λ s w. time-curve (now (s .tasks)) (s .index) w };
 
     fn at(&self, window: u32) -> u64 {
-        demand(&Slots, self.tasks, self.index, window)
+        demand(0, self.tasks, self.index, window).slots
     }
 }
 
@@ -70,10 +80,9 @@ pub(crate) impl Curve for GreaterCurve<'_> as GreaterDemand {
     ghost value = { λ s w. greater-curve (s .rate) (now (s .tasks)) (s .index) w };
 
     fn at(&self, window: u32) -> u64 {
-        let slots = demand(&Slots, self.tasks, self.index, window);
-        let energy = demand(&Draw, self.tasks, self.index, window);
+        let sums = demand(0, self.tasks, self.index, window);
         let rate = self.rate as u64;
-        slots.max((energy + rate - 1) / rate)
+        sums.slots.max((sums.energy + rate - 1) / rate)
     }
 }
 
@@ -95,7 +104,7 @@ pub(crate) impl Curve for SafeCurve<'_> as SafeDemand {
 
     fn at(&self, window: u32) -> u64 {
         let rate = self.rate as u64;
-        let energy = demand(&Larger { rate: self.rate }, self.tasks, self.index, window);
-        (energy + rate - 1) / rate
+        let sums = demand(self.rate, self.tasks, self.index, window);
+        (sums.energy + rate - 1) / rate
     }
 }

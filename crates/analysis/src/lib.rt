@@ -3,4 +3,3 @@ pub mod assess;
 mod curve;
 mod search;
 pub mod verdict;
-mod weight;

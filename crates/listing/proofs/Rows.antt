@@ -25,8 +25,8 @@ lines-none (n ∷ ns) = refl
 
 -- what is written, and the lines from i on
 pub line-more : (names : List (List ℕ)) (bs : List TaskBounds) (i : ℕ) (before name : List ℕ) (b : TaskBounds) → i < length names → i < length bs →
-  name ≡ getD names i [] → b ≡ getD bs i no-bounds →
-  before ++ lines-text (drop i names) (drop i bs) ≡ (before ++ task-line name b) ++ lines-text (drop (i + 1) names) (drop (i + 1) bs)
+    name ≡ getD names i [] → b ≡ getD bs i no-bounds →
+    before ++ lines-text (drop i names) (drop i bs) ≡ (before ++ task-line name b) ++ lines-text (drop (i + 1) names) (drop (i + 1) bs)
 line-more names bs i before name b p q en eb =
     rw (add-one, drop-cons names i [], drop-cons bs i no-bounds, en, eb) (sym (append-assoc before _ _))
 
@@ -42,7 +42,7 @@ pub record Small (b : TaskBounds) : Type 0 where
   pub rounds : b .safe .rounds ≤ 100000
 
 pub bounds-small : (gain : ℕ) (ts : List Task) (index : ℕ) (b : TaskBounds) → Sized (getD ts index no-task) → Timed (getD ts index no-task) →
-  Bounds-of gain ts index b → Small b
+    Bounds-of gain ts index b → Small b
 bounds-small gain ts index b s t h =
     let le : getD ts index no-task .deadline ≤ 100000 = omega arith in
     let some : 1 ≤ getD ts index no-task .deadline = omega arith in
@@ -51,7 +51,8 @@ bounds-small gain ts index b s t h =
       time = least-at-most _ 100000 _ (b .time .window) le (h .time .0);
       greater = least-at-most _ 100000 _ (b .greater .window) le (h .greater .0);
       safe = least-at-most _ 100000 _ (b .safe .window) le (h .safe .0);
-      rounds = omega arith }
+      rounds = omega arith;
+    }
 
 -- a verdict over a table has at most 16 tasks
 pub few-tasks : (t : Table) (n : ℕ) → n ≡ length (task-list t) → (n ≤ 16) × (n ≤ t .count)

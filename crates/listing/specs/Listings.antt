@@ -31,7 +31,7 @@ lines-text (name ∷ names) (b ∷ bs) = task-line name b ++ lines-text names bs
 
 pub data Listing (file : List ℕ) : List ℕ → Bool → Type 0 where
   of-table : (c : Contents) (bs : List TaskBounds) (accepted : Bool) → Loads file (full c) → All-bounds (c .rate) (c .tasks) bs →
-    Decides accepted (Accepted (c .rate) (c .tasks)) → Listing file (lines-text (c .names) bs ++ verdict-text accepted) accepted
+      Decides accepted (Accepted (c .rate) (c .tasks)) → Listing file (lines-text (c .names) bs ++ verdict-text accepted) accepted
   of-refusal : (r : Refusal) (at : ℕ) → Loads file (refused r at) → Listing file (refused-text (number-of r) at) false
 
 -- the text stands in front, and behind it the output keeps what it held

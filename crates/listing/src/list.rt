@@ -38,7 +38,14 @@ fn put_lines(text: &mut Text, table: &Table, verdict: &Verdict)
             let time = found.time.window;
             let greater = found.greater.window;
             let safe = found.safe.window;
-            put_line(text, name.as_bytes(), time, greater, safe, found.safe.rounds);
+            put_line(
+                text,
+                name.as_bytes(),
+                time,
+                greater,
+                safe,
+                found.safe.rounds,
+            );
         }
     }
 }

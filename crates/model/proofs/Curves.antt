@@ -3,6 +3,7 @@
 --   demand-rises, demand-positive           of any weight
 --   time-, greater- and safe-curve-rises and -positive   of lawful tasks
 use Prim.Native.Nat.{ℕ, zero, suc, _+_, _-_, _*_, _/_, _≤_, _<_}
+use mathlib.Core.Path.{_≡_, refl, ap}
 use mathlib.Core.List.{List, [], _∷_}
 use lib.ListN.{length, getD}
 use native.Mathlib.Omega.{arith}
@@ -49,6 +50,12 @@ demand-rises weight (t ∷ ts) zero each v w h = le-refl (t .units * weight t)
 demand-rises weight (t ∷ ts) (suc index) each v w h =
     let here : job-count t v ≤ job-count t w = job-count-rises t v w (each 0 (omega arith)) h in
     add-le-add (mul-le-mul-right (t .units * weight t) here) (demand-rises weight ts index (each-later Periodic t ts each) v w h)
+
+-- weights that are equal for each task give equal demands
+pub demand-same : (f g : Task → ℕ) → ((t : Task) → f t ≡ g t) → (ts : List Task) (index w : ℕ) → demand f ts index w ≡ demand g ts index w
+demand-same f g same [] index w = refl
+demand-same f g same (t ∷ ts) zero w = ap (λ n. t .units * n) (same t)
+demand-same f g same (t ∷ ts) (suc index) w = rw (same t, demand-same f g same ts index w)
 
 -- what one job of a task counts
 abbrev pub own-demand : (Task → ℕ) → Task → ℕ

@@ -16,11 +16,11 @@ pub not-both : (b r : Bool) → r ≡ b → r ≡ false → b ≡ true → ⊥
 not-both b r e f t = let z : _≡_ {A = ℕ} 0 1 = cc in omega arith
 
 graphic-first : (xs : List ℕ) (k : ℕ) → k < length xs →
-  graphic (drop k xs) ≡ (leb 0x21 (getD xs k 0) && leb (getD xs k 0) 0x7E) && graphic (drop (k + 1) xs)
+    graphic (drop k xs) ≡ (leb 0x21 (getD xs k 0) && leb (getD xs k 0) 0x7E) && graphic (drop (k + 1) xs)
 graphic-first xs k h = rw (add-one, drop-cons xs k 0)
 
 pub graphic-passes : (xs : List ℕ) (k : ℕ) → k < length xs → 0x21 ≤ getD xs k 0 → getD xs k 0 ≤ 0x7E →
-  graphic (drop k xs) ≡ graphic (drop (k + 1) xs)
+    graphic (drop k xs) ≡ graphic (drop (k + 1) xs)
 graphic-passes xs k h lo hi =
     let a = le-leb 0x21 (getD xs k 0) lo in
     let b = le-leb (getD xs k 0) 0x7E hi in

@@ -2,3 +2,8 @@ mod Steps
 mod Rows
 mod Letters
 mod Walks
+mod Checks
+mod Once
+mod Numbers
+mod Records
+mod Files

@@ -12,7 +12,7 @@ use Rattle.table.specs.Reading.{body-step, part-step, step-at}
 
 -- A record that lies within what is left is its body's step.
 pub part-is-body : (b : List ℕ) (at : ℕ) → 4 ≤ length b → 4 ≤ le2 b 0 → le2 b 0 ≤ length b →
-  part-step b at ≡ body-step (le2 b 2) (take (le2 b 0 - 4) (drop 4 b)) at (at + le2 b 0)
+    part-step b at ≡ body-step (le2 b 2) (take (le2 b 0 - 4) (drop 4 b)) at (at + le2 b 0)
 part-is-body b at h k m =
     let some = ne-eqb (length b) 0 (λ e. omega arith) in
     let four = le-ltb (length b) 4 h in
@@ -22,7 +22,7 @@ part-is-body b at h k m =
 
 -- The same for the header's fields and the part of the rest that the code cuts off.
 pub body-is-part : (b rest : List ℕ) (at len kind : ℕ) → 4 ≤ length b → len ≡ le2 b 0 → kind ≡ le2 b 2 → rest ≡ drop 4 b →
-  4 ≤ len → len ≤ length b → body-step kind (take (len - 4 - 0) rest) at (at + len) ≡ part-step b at
+    4 ≤ len → len ≤ length b → body-step kind (take (len - 4 - 0) rest) at (at + len) ≡ part-step b at
 body-is-part b rest at len kind h el ek er k m =
     let cut : len - 4 - 0 ≡ len - 4 = omega arith in
     rw (er, cut, el, ek) (sym (part-is-body b at h (omega arith) (omega arith)))

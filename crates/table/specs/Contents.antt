@@ -18,7 +18,7 @@ bare rate floor top = record { rate = rate; floor = floor; top = top; tasks = []
 
 abbrev pub extended : Contents → Task → List ℕ → Contents
 extended c t name =
-  record { rate = c .rate; floor = c .floor; top = c .top; tasks = c .tasks ++ (t ∷ []); names = c .names ++ (name ∷ []) }
+    record { rate = c .rate; floor = c .floor; top = c .top; tasks = c .tasks ++ (t ∷ []); names = c .names ++ (name ∷ []) }
 
 -- the room between floor and cap
 abbrev pub room : Contents → ℕ

@@ -9,3 +9,5 @@ pub mod Limits
 pub mod Tables
 pub mod Loading
 pub mod Outcomes
+pub mod Files
+pub mod Laws

@@ -1,4 +1,5 @@
 // Tables: refusals, the table with its limits in its type, and the way from a file's bytes to a table.
+pub mod laws;
 pub mod load;
 pub mod name;
 pub mod read;

@@ -2,7 +2,8 @@
 ghost use mathlib.Core.Path.{_≡_};
 ghost use denote.Ref.{now};
 ghost use Rattle.std.specs.declared.result.Result.the-variants.{Ok, Err};
-ghost use Rattle.table.specs.Loading.{Tasks, Loads};
+ghost use Rattle.table.specs.Files.{file-bytes};
+ghost use Rattle.table.specs.Loading.{Loaded, Tasks, Loads};
 ghost use Rattle.table.specs.Outcomes.{loaded-table, loaded-into};
 ghost use Rattle.table.specs.Tables.{contents-of};
 use crate::read::Reader;
@@ -23,7 +24,10 @@ fn load_tasks(reader: &mut Reader<'_>, start: Table) -> Result<Table, LoadFault>
         let at = placed.at;
         match placed.record {
             Record::Node { .. } => {
-                return Err(LoadFault { refusal: Refusal::WrongPlace, at });
+                return Err(LoadFault {
+                    refusal: Refusal::WrongPlace,
+                    at,
+                });
             }
             Record::Task { task, name } => match table.with_task(task, name) {
                 Ok(longer) => table = longer,
@@ -36,14 +40,22 @@ fn load_tasks(reader: &mut Reader<'_>, start: Table) -> Result<Table, LoadFault>
 // Fills the table that the caller lends, or refuses the file and leaves the table as it was.
 pub fn load(file: &[u8], table: &mut Table) -> Result<(), LoadFault>
     ensures loads { λ r. ⌜ Loads (now (file .entry)) (loaded-into r (now (table .exit))) ⌝ }
+    ensures only { λ r. ⌜ ((other : Loaded) → Loads (now (file .entry)) other → other ≡ loaded-into r (now (table .exit))) ⌝ }
+    ensures laid { λ r. ⌜ elim r [ Ok u ↦ now (file .entry) ≡ file-bytes (contents-of (now (table .exit))) | Err f ↦ Unit {0} ] ⌝ }
     ensures same { λ r. ⌜ elim r [ Ok u ↦ Unit {0} | Err f ↦ now (table .exit) ≡ now (table .entry) ] ⌝ }
 {
     let mut reader = Reader::new(file);
     let Some(first) = reader.next()? else {
-        return Err(LoadFault { refusal: Refusal::WrongPlace, at: 0 });
+        return Err(LoadFault {
+            refusal: Refusal::WrongPlace,
+            at: 0,
+        });
     };
     let Record::Node { rate, floor, cap } = first.record else {
-        return Err(LoadFault { refusal: Refusal::WrongPlace, at: 0 });
+        return Err(LoadFault {
+            refusal: Refusal::WrongPlace,
+            at: 0,
+        });
     };
     let start = match Table::new(rate, floor, cap) {
         Ok(start) => start,

@@ -12,7 +12,10 @@ pub struct Name {
 
 impl Name {
     // A name of no bytes, for places that no task has.
-    pub(crate) const NONE: Name = Name { bytes: [0; 12], len: 0 };
+    pub(crate) const NONE: Name = Name {
+        bytes: [0; 12],
+        len: 0,
+    };
 
     // Keeps a name of at most 12 bytes.
     pub(crate) fn keep(text: &[u8]) -> Name
@@ -30,7 +33,11 @@ impl Name {
     pub fn as_bytes(&self) -> &[u8]
         ensures { λ r. ⌜ now r ≡ name-bytes (now (self .entry)) ⌝ }
     {
-        if self.len < 12 { &self.bytes[0..self.len] } else { &self.bytes[0..12] }
+        if self.len < 12 {
+            &self.bytes[0..self.len]
+        } else {
+            &self.bytes[0..12]
+        }
     }
 }
 

@@ -50,7 +50,29 @@ fn read_header<'a>(left: &'a [u8]) -> Option<Header<'a>>
 fn read_node<'a>(body: &'a [u8]) -> Option<Record<'a>>
     ensures { λ r. ⌜ elim r [ None ↦ (length (now (body .entry)) ≡ 20 → ⊥) | Some n ↦ (length (now (body .entry)) ≡ 20) × (entry-of n ≡ node-of (now (body .entry))) ] ⌝ }
 {
-    let [r0, r1, r2, r3, f0, f1, f2, f3, f4, f5, f6, f7, c0, c1, c2, c3, c4, c5, c6, c7] = body else {
+    let [
+        r0,
+        r1,
+        r2,
+        r3,
+        f0,
+        f1,
+        f2,
+        f3,
+        f4,
+        f5,
+        f6,
+        f7,
+        c0,
+        c1,
+        c2,
+        c3,
+        c4,
+        c5,
+        c6,
+        c7,
+    ] = body
+    else {
         return None;
     };
     Some(Record::Node {
@@ -63,7 +85,28 @@ fn read_node<'a>(body: &'a [u8]) -> Option<Record<'a>>
 fn read_task<'a>(body: &'a [u8]) -> Option<Record<'a>>
     ensures { λ r. ⌜ elim r [ None ↦ length (now (body .entry)) < 18 | Some t ↦ entry-of t ≡ task-of (now (body .entry)) ] ⌝ }
 {
-    let [c0, c1, t0, t1, t2, t3, d0, d1, d2, d3, p0, p1, p2, p3, p4, p5, p6, p7, name @ ..] = body else {
+    let [
+        c0,
+        c1,
+        t0,
+        t1,
+        t2,
+        t3,
+        d0,
+        d1,
+        d2,
+        d3,
+        p0,
+        p1,
+        p2,
+        p3,
+        p4,
+        p5,
+        p6,
+        p7,
+        name @ ..,
+    ] = body
+    else {
         return None;
     };
     let task = Task {
@@ -82,18 +125,30 @@ fn read_body<'a>(kind: u16, body: &'a [u8], at: usize) -> Result<Record<'a>, Loa
     match kind {
         1 => match read_node(body) {
             Some(node) => Ok(node),
-            None => Err(LoadFault { refusal: Refusal::WrongLength, at }),
+            None => Err(LoadFault {
+                refusal: Refusal::WrongLength,
+                at,
+            }),
         },
         2 => {
             if body.len() < 19 || body.len() > 30 {
-                return Err(LoadFault { refusal: Refusal::WrongLength, at });
+                return Err(LoadFault {
+                    refusal: Refusal::WrongLength,
+                    at,
+                });
             }
             match read_task(body) {
                 Some(task) => Ok(task),
-                None => Err(LoadFault { refusal: Refusal::WrongLength, at }),
+                None => Err(LoadFault {
+                    refusal: Refusal::WrongLength,
+                    at,
+                }),
             }
         }
-        _ => Err(LoadFault { refusal: Refusal::UnknownKind, at }),
+        _ => Err(LoadFault {
+            refusal: Refusal::UnknownKind,
+            at,
+        }),
     }
 }
 
@@ -106,14 +161,23 @@ fn read_part<'a>(left: &'a [u8], at: usize) -> Result<Option<(Record<'a>, usize)
         return Ok(None);
     }
     let Some(header) = read_header(left) else {
-        return Err(LoadFault { refusal: Refusal::PastEnd, at });
+        return Err(LoadFault {
+            refusal: Refusal::PastEnd,
+            at,
+        });
     };
     let len = header.len as usize;
     if len < 4 {
-        return Err(LoadFault { refusal: Refusal::WrongLength, at });
+        return Err(LoadFault {
+            refusal: Refusal::WrongLength,
+            at,
+        });
     }
     if left.len() < len {
-        return Err(LoadFault { refusal: Refusal::PastEnd, at });
+        return Err(LoadFault {
+            refusal: Refusal::PastEnd,
+            at,
+        });
     }
     let record = read_body(header.kind, &header.rest[0..len - 4], at)?;
     Ok(Some((record, len)))

@@ -36,7 +36,11 @@ fn asked_for(rt: &LibcRuntime) -> Result<Request, AnyError> {
     let mut count = 0usize;
     for argument in env::args(rt)? {
         if count == 1 {
-            asked = if argument.as_str() == "--help" { Request::Help } else { Request::Unknown };
+            asked = if argument.as_str() == "--help" {
+                Request::Help
+            } else {
+                Request::Unknown
+            };
         } else if count > 1 {
             asked = Request::Unknown;
         }

@@ -28,8 +28,20 @@ impl Table {
     pub fn empty() -> Table
         ensures { λ r. ⌜ contents-of r ≡ bare 1 0 0 ⌝ }
     {
-        let none = Task { units: 0, period: 0, deadline: 0, draw: 0 };
-        Table { rate: 1, floor: 0, cap: 0, tasks: [none; 16], names: [Name::NONE; 16], count: 0 }
+        let none = Task {
+            units: 0,
+            period: 0,
+            deadline: 0,
+            draw: 0,
+        };
+        Table {
+            rate: 1,
+            floor: 0,
+            cap: 0,
+            tasks: [none; 16],
+            names: [Name::NONE; 16],
+            count: 0,
+        }
     }
 
     // A table with no tasks, or a refusal of its numbers.
@@ -39,8 +51,20 @@ impl Table {
         if rate < 1 || rate > 1_000_000_000 || floor > cap || cap > 8_000_000_000 {
             return Err(Refusal::OutsideLimits);
         }
-        let none = Task { units: 0, period: 0, deadline: 0, draw: 0 };
-        Ok(Table { rate, floor, cap, tasks: [none; 16], names: [Name::NONE; 16], count: 0 })
+        let none = Task {
+            units: 0,
+            period: 0,
+            deadline: 0,
+            draw: 0,
+        };
+        Ok(Table {
+            rate,
+            floor,
+            cap,
+            tasks: [none; 16],
+            names: [Name::NONE; 16],
+            count: 0,
+        })
     }
 
     // The table with one task more, less urgent than the others, or a refusal of that task.
@@ -67,6 +91,13 @@ impl Table {
         tasks[at] = task;
         let mut names = self.names;
         names[at] = Name::keep(name);
-        Ok(Table { rate: self.rate, floor: self.floor, cap: self.cap, tasks, names, count: at + 1 })
+        Ok(Table {
+            rate: self.rate,
+            floor: self.floor,
+            cap: self.cap,
+            tasks,
+            names,
+            count: at + 1,
+        })
     }
 }

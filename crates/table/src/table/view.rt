@@ -32,6 +32,10 @@ impl Table {
     pub fn name(&self, index: usize) -> Option<Name>
         ensures { λ r. ⌜ elim r [ None ↦ length (task-list (now (self .entry))) ≤ index | Some n ↦ (index < length (name-list (now (self .entry)))) × (name-bytes n ≡ getD (name-list (now (self .entry))) index []) × Short (name-bytes n) ] ⌝ }
     {
-        if index < self.count { Some(self.names[index]) } else { None }
+        if index < self.count {
+            Some(self.names[index])
+        } else {
+            None
+        }
     }
 }

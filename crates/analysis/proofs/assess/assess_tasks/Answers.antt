@@ -58,7 +58,8 @@ returns c =
       count = refl;
       bounds = record {
         count = omega (arith, length-take (length ts) bs, c .loop-index .inv .0, c .pre .few);
-        each = λ k h. subst (Bounds-of (c .args .rate) ts k) (sym (getD-take (length ts) bs k no-bounds h)) (c .loop-index .inv .1 k (omega arith)) };
+        each = λ k h. subst (Bounds-of (c .args .rate) ts k) (sym (getD-take (length ts) bs k no-bounds h)) (c .loop-index .inv .1 k (omega arith));
+      };
       accepted =
           let Below : ℕ → Type 0 = λ n. (k : ℕ) → k < n → (window : ℕ) × Fits (c .args .rate) ts k window in
           subst (λ n. Decides (c .loop-index .accepted) (Below n)) all (c .loop-index .inv .2);

@@ -17,4 +17,5 @@ returns-in-None c =
       accepted = c .put-listing-accepted .result;
       told = c .put-listing-accepted .ensures;
       short = out .0;
-      kept = out .1 }
+      kept = out .1;
+    }

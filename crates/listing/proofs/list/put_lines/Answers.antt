@@ -38,7 +38,8 @@ put-line-requires c κs =
     record {
       short = short;
       limits = (small .time, (small .greater, (small .safe, small .rounds)));
-      room = omega (arith, c .loop-index .inv .1, few .0) }
+      room = omega (arith, c .loop-index .inv .1, few .0);
+    }
 
 pub loop-index-again : need.loop-index-again
 loop-index-again c =
@@ -49,15 +50,17 @@ loop-index-again c =
     let inb : i < length (bounds-list v) = omega (arith, c .pre .bounds .bounds .count, c .pre .bounds .count) in
     let b : getD (v .bounds) i no-bounds ≡ getD (bounds-list v) i no-bounds = sym (getD-take (v .count) (v .bounds) i no-bounds (c .loop-index-test .taken)) in
     elim (c .match-name .came) [
-      in-Some w ↦
-        let name = w .as-bytes .result .now in
-        let told = w .in-Some .ensures tt in
-        let e = line-more (name-list t) (bounds-list v) i (written (c .loop-index .text)) name (getD (v .bounds) i no-bounds) (told .0) inb (w .as-bytes .ensures ∙ told .1) b in
-        let put : written (c .match-name .text) ≡ written (c .loop-index .text) ++ task-line name (getD (v .bounds) i no-bounds) =
-          ap written (w .text-is) ∙ w .put-line .ensures .text in
-        ( ap (λ x. x ++ lines-text (drop (i + 1) (name-list t)) (drop (i + 1) (bounds-list v))) put ∙ (sym e ∙ c .loop-index .inv .0)
-        , omega (arith, ap (λ x. x .len) (w .text-is), w .put-line .ensures .len, c .loop-index .inv .1) )
-    | in-rest w ↦ absurd (omega (arith, w .in-rest .ensures tt, c .pre .bounds .count)) ]
+      | in-Some w ↦
+          let name = w .as-bytes .result .now in
+          let told = w .in-Some .ensures tt in
+          let e = line-more (name-list t) (bounds-list v) i (written (c .loop-index .text)) name (getD (v .bounds) i no-bounds) (told .0) inb (w .as-bytes .ensures ∙ told .1) b in
+          let put : written (c .match-name .text) ≡ written (c .loop-index .text) ++ task-line name (getD (v .bounds) i no-bounds) =
+          ap written (w .text-is) ∙ w .put-line .ensures .text in (
+            ap (λ x. x ++ lines-text (drop (i + 1) (name-list t)) (drop (i + 1) (bounds-list v))) put ∙ (sym e ∙ c .loop-index .inv .0),
+            omega (arith, ap (λ x. x .len) (w .text-is), w .put-line .ensures .len, c .loop-index .inv .1),
+          )
+      | in-rest w ↦ absurd (omega (arith, w .in-rest .ensures tt, c .pre .bounds .count))
+    ]
 
 pub returns : need.returns
 returns c =
@@ -69,4 +72,5 @@ returns c =
     let none : lines-text names (drop i (bounds-list v)) ≡ [] = ap (lines-text names) gone ∙ lines-none names in
     record {
       text = sym (append-nil (written (c .loop-index .text))) ∙ (ap (λ x. written (c .loop-index .text) ++ x) (sym none) ∙ c .loop-index .inv .0);
-      len = omega (arith, c .loop-index .inv .1, few .0) }
+      len = omega (arith, c .loop-index .inv .1, few .0);
+    }

@@ -13,5 +13,5 @@ returns-in-Err c =
     let told = c .in-Err .ensures tt in
     let empty : written (c .put-table .last .text) ≡ [] = ap written (told .1) ∙ ap (λ n. take n (c .args .text .now .bytes)) (c .pre) in
     let text = c .put-refused .ensures .text
-                 ∙ (ap (λ x. x ++ refused-text (c .number .result) (f .at)) empty ∙ ap (λ n. refused-text n (f .at)) (c .number .ensures)) in
+    ∙ (ap (λ x. x ++ refused-text (c .number .result) (f .at)) empty ∙ ap (λ n. refused-text n (f .at)) (c .number .ensures)) in
     subst (λ x. Listing (c .args .file .now) x false) (sym text) (of-refusal (f .refusal) (f .at) (told .0))

@@ -11,5 +11,5 @@ returns c =
     let v = c .assess-verdict .result in
     let text = c .put-verdict .ensures .text ∙ ap (λ x. x ++ verdict-text (v .accepted)) (c .put-lines .ensures .text) in
     let told = of-table (contents-of (c .load .last .table)) (bounds-list v) (v .accepted) (c .in-Continue-load .ensures tt .loads)
-                 (c .assess-verdict .ensures .bounds) (c .assess-verdict .ensures .accepted) in
+    (c .assess-verdict .ensures .bounds) (c .assess-verdict .ensures .accepted) in
     subst (λ x. Listing (c .args .file .now) x (v .accepted)) (sym text) told

@@ -37,6 +37,7 @@ each-again c =
     let t = c .in-Task in
     let g = c .args .reader .now .file .now in
     let e = record-seen (c .each .reader .file .now) g (c .each .reader .at) (c .next .last .self .at) (c .in-Continue-placed .field-0) (c .in-Some .placed) (Task (t .task) (t .name)) (c .in-Continue-placed .ensures tt .said) (c .in-Some .is) (t .is) (c .each .inv .0) in
-    let told = c .in-Ok .ensures tt in
-    ( c .next .ensures .file ∙ c .each .inv .0
-    , (λ res go. c .each .inv .1 res (more _ _ _ _ _ _ res e (told .0) (subst (λ x. Tasks g (c .next .last .self .at) x res) (told .1) go))) )
+    let told = c .in-Ok .ensures tt in (
+      c .next .ensures .file ∙ c .each .inv .0,
+      (λ res go. c .each .inv .1 res (more _ _ _ _ _ _ res e (told .0) (subst (λ x. Tasks g (c .next .last .self .at) x res) (told .1) go))),
+    )

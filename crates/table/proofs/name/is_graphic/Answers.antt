@@ -15,9 +15,10 @@ returns-then-byte-lt33 c =
     let xs = c .args .text .now in
     let k = c .loop-byte .byte-index in
     elim (c .then-byte-lt33 .came) [
-      then-byte-lt33·by·then-byte-lt33 w ↦ sym (c .loop-byte .inv ∙ graphic-low xs k (c .loop-byte-test .taken) (w .if-byte-lt33 .taken))
-    | then-byte-lt33·by·else-byte-lt33·then-byte-gt126 w ↦
-        sym (c .loop-byte .inv ∙ graphic-high xs k (c .loop-byte-test .taken) (w .if-byte-lt33 .left) (w .if-byte-gt126 .taken)) ]
+      | then-byte-lt33·by·then-byte-lt33 w ↦ sym (c .loop-byte .inv ∙ graphic-low xs k (c .loop-byte-test .taken) (w .if-byte-lt33 .taken))
+      | then-byte-lt33·by·else-byte-lt33·then-byte-gt126 w ↦
+          sym (c .loop-byte .inv ∙ graphic-high xs k (c .loop-byte-test .taken) (w .if-byte-lt33 .left) (w .if-byte-gt126 .taken))
+    ]
 
 pub loop-byte-again : need.loop-byte-again
 loop-byte-again c =

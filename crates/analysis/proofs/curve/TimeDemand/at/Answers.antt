@@ -5,7 +5,7 @@ pub returns : need.returns
 returns c =
     let s = c .args .self .now in
     record {
-      amount = c .demand .ensures .sum;
+      amount = c .demand .ensures .slots;
       rises = time-curve-rises (s .tasks .now) (s .index) (s .within .0) (s .sized) (s .timed);
       positive = time-curve-positive (s .tasks .now) (s .index) (s .within .0) (s .sized) (s .timed);
     }

@@ -19,7 +19,8 @@ returns-in-None c =
     record {
       said = ap (λ o. part-said (Ok o) at) (sym (c .in-None .is)) ∙ (c .in-Continue-read-part .ensures tt .said ∙ e);
       file = refl;
-      place = refl }
+      place = refl;
+    }
 
 pub returns-in-Some : need.returns-in-Some
 returns-in-Some c =
@@ -29,4 +30,5 @@ returns-in-Some c =
     record {
       said = ap (λ o. part-said (Ok o) at) (sym (c .in-Some .is)) ∙ (c .in-Continue-read-part .ensures tt .said ∙ e);
       file = refl;
-      place = omega (arith, f .0) }
+      place = omega (arith, f .0);
+    }

@@ -15,10 +15,11 @@ returns-then-index-self c =
     let lt : i < t .count = search needs in
     let within : t .count ≤ length (t .names) = search needs in
     let front = take (t .count) (t .names) in
-    let li : i < length front = omega (arith, length-take (t .count) (t .names)) in
-    ( omega (arith, length-map front name-bytes)
-    , sym (getD-map name-bytes front i no-name [] li ∙ ap name-bytes (getD-take (t .count) (t .names) i no-name lt))
-    , t .short i lt )
+    let li : i < length front = omega (arith, length-take (t .count) (t .names)) in (
+      omega (arith, length-map front name-bytes),
+      sym (getD-map name-bytes front i no-name [] li ∙ ap name-bytes (getD-take (t .count) (t .names) i no-name lt)),
+      t .short i lt,
+    )
 
 pub returns-else-index-self : need.returns-else-index-self
 returns-else-index-self c =

@@ -17,5 +17,6 @@ returns c =
       few = omega (arith, length-take (t .count) (t .tasks), t .few);
       sized = each-front Sized (t .tasks) (t .count) no-task within (t .sized);
       timed = each-front Timed (t .tasks) (t .count) no-task within (t .timed);
-      payable = each-front (Payable (room-of t)) (t .tasks) (t .count) no-task within (t .payable) } in
+      payable = each-front (Payable (room-of t)) (t .tasks) (t .count) no-task within (t .payable);
+    } in
     record { value = cut; limits = subst (Lawful-tasks (room-of t)) (sym cut) lawful }

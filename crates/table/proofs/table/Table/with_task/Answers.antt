@@ -44,13 +44,28 @@ ghost-result c =
     let ln : t .count < length (t .names) = search needs in
     let kept : name-bytes (c .keep .result) ≡ c .args .name .now = c .keep .ensures in
     let short : Short (name-bytes (c .keep .result)) = subst Short (sym kept) (search needs) in
-    let lettered : Graphic (name-bytes (c .keep .result)) = subst Graphic (sym kept) (sym (c .is-graphic .ensures) ∙ c .if-not-is-graphic .left) in
-    (t .rated, (t .stored, (omega arith,
-      (each-more Sized (t .tasks) (t .count) no-task (c .args .task) lt (t .sized) (good .0),
-      (each-more Timed (t .tasks) (t .count) no-task (c .args .task) lt (t .timed) (good .1),
-      (each-more (Payable (t .cap - t .floor)) (t .tasks) (t .count) no-task (c .args .task) lt (t .payable) (c .if-task-self .left),
-      (each-more (λ n. Short (name-bytes n)) (t .names) (t .count) no-name (c .keep .result) ln (t .short) short,
-      (each-more (λ n. Graphic (name-bytes n)) (t .names) (t .count) no-name (c .keep .result) ln (t .graphic) lettered, tt))))))))
+    let lettered : Graphic (name-bytes (c .keep .result)) = subst Graphic (sym kept) (sym (c .is-graphic .ensures) ∙ c .if-not-is-graphic .left) in (
+      t .rated,
+      (
+        t .stored,
+        (
+          omega arith,
+          (
+            each-more Sized (t .tasks) (t .count) no-task (c .args .task) lt (t .sized) (good .0),
+            (
+              each-more Timed (t .tasks) (t .count) no-task (c .args .task) lt (t .timed) (good .1),
+              (
+                each-more (Payable (t .cap - t .floor)) (t .tasks) (t .count) no-task (c .args .task) lt (t .payable) (c .if-task-self .left),
+                (
+                  each-more (λ n. Short (name-bytes n)) (t .names) (t .count) no-name (c .keep .result) ln (t .short) short,
+                  (each-more (λ n. Graphic (name-bytes n)) (t .names) (t .count) no-name (c .keep .result) ln (t .graphic) lettered, tt),
+                ),
+              ),
+            ),
+          ),
+        ),
+      ),
+    )
 
 pub returns : need.returns
 returns c =
@@ -68,6 +83,7 @@ returns c =
       sized = good .0;
       timed = good .1;
       payable = c .if-task-self .left;
-      graphic = lettered } in
+      graphic = lettered;
+    } in
     let row = names ∙ ap (λ b. name-list t ++ (b ∷ [])) kept in
     (allowed, contents-are (t .rate) (t .floor) (t .cap) _ _ _ _ tasks row)
