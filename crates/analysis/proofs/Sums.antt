@@ -9,26 +9,26 @@ use native.Mathlib.Numerals.{add-one}
 use native.Mathlib.Omega.{arith}
 use Rattle.std.proofs.shelf.Bits.{mul-le}
 use Rattle.model.specs.declared.task.Task.{Task}
-use Rattle.model.specs.Tasks.{no-task, Sized, Timed, Payable, Lawful-task, Each}
+use Rattle.model.specs.Tasks.{no-task, Lawful-task}
 use Rattle.model.specs.Demand.{job-count, demand, slot-weight}
 use Rattle.model.proofs.Curves.{own-demand, job-count-within}
+use Rattle.analysis.specs.declared.curve.Subject.{Subject}
 
 pub urgent-below : (ts : List Task) (index i : ℕ) → i < length (take index ts) → i < index
 urgent-below ts index i h = omega (arith, length-take index ts)
 
-module _ (ts : List Task) (index : ℕ) (within : index < length ts) (sized : Each Sized ts (length ts)) (timed : Each Timed ts (length ts))
-    (payable : Each (Payable 8000000000) ts (length ts)) where
-  pub own-lawful : Lawful-task 8000000000 (getD ts index no-task)
-  own-lawful = (sized index within, timed index within, payable index within)
+module _ (s : Subject) where
+  pub own-lawful : Lawful-task 8000000000 (getD (s .tasks .now) (s .index) no-task)
+  own-lawful = (s .sized (s .index) (s .within .0), s .timed (s .index) (s .within .0), s .payable (s .index) (s .within .0))
 
   -- the task that a turn reads is the one at its place, and lawful
-  pub urgent-is : (i : ℕ) → i < length (take index ts) → getD (take index ts) i no-task ≡ getD ts i no-task
-  urgent-is i h = getD-take index ts i no-task (urgent-below ts index i h)
+  pub urgent-is : (i : ℕ) → i < length (take (s .index) (s .tasks .now)) → getD (take (s .index) (s .tasks .now)) i no-task ≡ getD (s .tasks .now) i no-task
+  urgent-is i h = getD-take (s .index) (s .tasks .now) i no-task (urgent-below (s .tasks .now) (s .index) i h)
 
-  pub urgent-lawful : (i : ℕ) → i < length (take index ts) → Lawful-task 8000000000 (getD (take index ts) i no-task)
+  pub urgent-lawful : (i : ℕ) → i < length (take (s .index) (s .tasks .now)) → Lawful-task 8000000000 (getD (take (s .index) (s .tasks .now)) i no-task)
   urgent-lawful i h =
-      let at : i < length ts = omega (arith, urgent-below ts index i h) in
-      rw (urgent-is i h) (sized i at, timed i at, payable i at)
+      let at : i < length (s .tasks .now) = omega (arith, urgent-below (s .tasks .now) (s .index) i h, s .within .0) in
+      rw (urgent-is i h) (s .sized i at, s .timed i at, s .payable i at)
 
 -- what one job of a lawful task counts, and what all of its jobs in a window count
 pub own-small : (t : Task) (r : ℕ) → Lawful-task 8000000000 t → r ≤ 8000000000 → t .units * r ≤ 4000000000000

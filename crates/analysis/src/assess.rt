@@ -1,13 +1,14 @@
 // The bounds of every task of a table, and the verdict.
-ghost use Prim.Native.Nat.{_≤_, _<_};
+ghost use Prim.Native.Nat.{_<_};
 ghost use lib.ListN.{length};
-ghost use Rattle.model.specs.Tasks.{Sized, Timed, Payable, Lawful-rate, Each};
+ghost use Rattle.model.specs.Tasks.{Lawful-rate, Lawful-tasks};
 ghost use Rattle.table.specs.Tables.{task-list};
 ghost use Rattle.analysis.specs.Verdicts.{Bounds-of, Verdict-of};
 use crate::curve::GreaterCurve;
 use crate::curve::GreaterDemand;
 use crate::curve::SafeCurve;
 use crate::curve::SafeDemand;
+use crate::curve::Subject;
 use crate::curve::TimeCurve;
 use crate::curve::TimeDemand;
 use crate::search::search;
@@ -19,17 +20,15 @@ use table::table::Table;
 
 // The three bounds of the task at the index.
 fn task_bounds(rate: u32, tasks: &[Task], index: usize) -> TaskBounds
-    requires within { ⌜ index < length (now tasks) ⌝ ∗ ⌜ length (now tasks) ≤ 16 ⌝ }
-    requires lawful { ⌜ Lawful-rate rate ⌝ }
-    requires sized { ⌜ Each Sized (now tasks) (length (now tasks)) ⌝ }
-    requires timed { ⌜ Each Timed (now tasks) (length (now tasks)) ⌝ }
-    requires payable { ⌜ Each (Payable 8000000000) (now tasks) (length (now tasks)) ⌝ }
+    requires lawful { ⌜ Lawful-rate rate ⌝ ∗ ⌜ Lawful-tasks 8000000000 (now tasks) ⌝ }
+    requires within { ⌜ index < length (now tasks) ⌝ }
     ensures { λ r. ⌜ Bounds-of rate (now (tasks .entry)) index r ⌝ }
 {
     let deadline = tasks[index].deadline;
-    let time = search(&TimeCurve { tasks, index }, deadline);
-    let greater = search(&GreaterCurve { tasks, index, rate }, deadline);
-    let safe = search(&SafeCurve { tasks, index, rate }, deadline);
+    let of = Subject { rate, tasks, index };
+    let time = search(&TimeCurve { of }, deadline);
+    let greater = search(&GreaterCurve { of }, deadline);
+    let safe = search(&SafeCurve { of }, deadline);
     TaskBounds {
         time,
         greater,
@@ -39,11 +38,7 @@ fn task_bounds(rate: u32, tasks: &[Task], index: usize) -> TaskBounds
 
 // The tasks are accepted if each of them has a safe bound.
 fn assess_tasks(rate: u32, tasks: &[Task]) -> Verdict
-    requires few { ⌜ length (now tasks) ≤ 16 ⌝ }
-    requires lawful { ⌜ Lawful-rate rate ⌝ }
-    requires sized { ⌜ Each Sized (now tasks) (length (now tasks)) ⌝ }
-    requires timed { ⌜ Each Timed (now tasks) (length (now tasks)) ⌝ }
-    requires payable { ⌜ Each (Payable 8000000000) (now tasks) (length (now tasks)) ⌝ }
+    requires { ⌜ Lawful-rate rate ⌝ ∗ ⌜ Lawful-tasks 8000000000 (now tasks) ⌝ }
     ensures { λ r. ⌜ Verdict-of rate (now (tasks .entry)) r ⌝ }
 {
     let none = Bound {

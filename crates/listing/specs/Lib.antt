@@ -1,4 +1,5 @@
 pub mod Copies
+pub mod Laws
 pub mod Lines
 pub mod Listings
 pub mod Puts

@@ -3,6 +3,7 @@ ghost use mathlib.Core.Path.{_≡_};
 ghost use Prim.Native.Nat.{_≤_};
 ghost use Rattle.table.specs.Tables.{task-list, name-list};
 ghost use Rattle.analysis.specs.Verdicts.{Verdict-of, bounds-list};
+ghost use Rattle.listing.specs.Laws.{Only-text};
 ghost use Rattle.listing.specs.Listings.{Listing, Listed-into, lines-text};
 ghost use Rattle.listing.specs.Puts.{Table-put};
 ghost use Rattle.listing.specs.Texts.{written};
@@ -79,7 +80,8 @@ fn put_listing(file: &[u8], text: &mut Text) -> bool
 
 // Writes the listing of a file into the front of the output, or leaves the output as it was.
 pub fn listing(file: &[u8], output: &mut [u8]) -> Result<Listed, Refusal>
-    ensures { λ r. ⌜ Listed-into (now (file .entry)) (now (output .entry)) r (now (output .exit)) ⌝ }
+    ensures listed { λ r. ⌜ Listed-into (now (file .entry)) (now (output .entry)) r (now (output .exit)) ⌝ }
+    ensures only { λ r. ⌜ Only-text (now (file .entry)) (now (output .entry)) r (now (output .exit)) ⌝ }
 {
     let mut text = Text::new();
     let accepted = put_listing(file, &mut text);

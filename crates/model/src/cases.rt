@@ -1,8 +1,6 @@
 // Tables whose bounds are known by hand, as theorems.
 ghost use Rattle.model.specs.Cases.{Worked-cases};
 
-pub fn worked_cases() -> u8
+pub fn worked_cases()
     ensures { λ _. ⌜ Worked-cases ⌝ }
-{
-    0
-}
+{}

@@ -2,18 +2,14 @@
 ghost use Rattle.model.specs.Laws.{Search-finds-least, Search-ends, Few-rounds, One-search, One-bound, Accepted-exactly, Refused-exactly};
 
 // The search finds the least window, ends, and has one answer; a bound is one.
-pub fn search_laws() -> u8
+pub fn search_laws()
     ensures finds { λ _. ⌜ Search-finds-least ⌝ }
     ensures ends { λ _. ⌜ Search-ends ⌝ ∗ ⌜ Few-rounds ⌝ }
     ensures one { λ _. ⌜ One-search ⌝ ∗ ⌜ One-bound ⌝ }
-{
-    0
-}
+{}
 
 // A table is accepted exactly when every task's safe bound is present.
-pub fn acceptance_laws() -> u8
+pub fn acceptance_laws()
     ensures accepted { λ _. ⌜ Accepted-exactly ⌝ }
     ensures refused { λ _. ⌜ Refused-exactly ⌝ }
-{
-    0
-}
+{}

@@ -3,7 +3,7 @@ mod Rows
 mod Letters
 mod Walks
 mod Checks
-mod Once
+pub mod Once
 mod Numbers
 mod Records
 mod Files

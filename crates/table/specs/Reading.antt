@@ -4,7 +4,6 @@ use mathlib.Core.Bool.{cond}
 use mathlib.Core.List.{List}
 use lib.Dec.{ltb, eqb}
 use lib.ListN.{drop, take, length}
-use Rattle.model.specs.declared.task.Task.{Task}
 use Rattle.table.specs.declared.refusal.Refusal.{Refusal}
 use Rattle.table.specs.declared.refusal.Refusal.the-variants.{PastEnd, UnknownKind, WrongLength}
 use Rattle.table.specs.Bytes.{le2, le4, le8}
@@ -25,12 +24,20 @@ task-of body = task (record { units = le2 body 0; period = le4 body 2; deadline 
 -- the body of a record of a kind: 20 bytes of a node, 19 to 30 of a task
 abbrev pub body-step : ℕ → List ℕ → ℕ → ℕ → Step
 body-step kind body at to =
-    cond (eqb kind 1) (cond (eqb (length body) 20) (got (node-of body) at to) (bad WrongLength at)) (cond (eqb kind 2) (cond (ltb (length body) 19) (bad WrongLength at) (cond (ltb 30 (length body)) (bad WrongLength at) (got (task-of body) at to))) (bad UnknownKind at))
+    cond (eqb kind 1)
+    (cond (eqb (length body) 20) (got (node-of body) at to) (bad WrongLength at))
+    (cond (eqb kind 2)
+    (cond (ltb (length body) 19) (bad WrongLength at) (cond (ltb 30 (length body)) (bad WrongLength at) (got (task-of body) at to)))
+    (bad UnknownKind at))
 
 -- the record at the front of the bytes that are left
 abbrev pub part-step : List ℕ → ℕ → Step
 part-step left at =
-    cond (eqb (length left) 0) end (cond (ltb (length left) 4) (bad PastEnd at) (cond (ltb (le2 left 0) 4) (bad WrongLength at) (cond (ltb (length left) (le2 left 0)) (bad PastEnd at) (body-step (le2 left 2) (take (le2 left 0 - 4) (drop 4 left)) at (at + le2 left 0)))))
+    cond (eqb (length left) 0) end
+    (cond (ltb (length left) 4) (bad PastEnd at)
+    (cond (ltb (le2 left 0) 4) (bad WrongLength at)
+    (cond (ltb (length left) (le2 left 0)) (bad PastEnd at)
+    (body-step (le2 left 2) (take (le2 left 0 - 4) (drop 4 left)) at (at + le2 left 0)))))
 
 -- the step at a place of a file
 abbrev pub step-at : List ℕ → ℕ → Step

@@ -35,7 +35,10 @@ struct Header<'a> {
 }
 
 fn read_header<'a>(left: &'a [u8]) -> Option<Header<'a>>
-    ensures { λ r. ⌜ elim r [ None ↦ length (now (left .entry)) < 4 | Some h ↦ (4 ≤ length (now (left .entry))) × (h .len ≡ le2 (now (left .entry)) 0) × (h .kind ≡ le2 (now (left .entry)) 2) × (now (h .rest) ≡ drop 4 (now (left .entry))) ] ⌝ }
+    ensures { λ r. ⌜ elim r [
+      | None ↦ length (now (left .entry)) < 4
+      | Some h ↦ (4 ≤ length (now (left .entry))) × (h .len ≡ le2 (now (left .entry)) 0) × (h .kind ≡ le2 (now (left .entry)) 2) × (now (h .rest) ≡ drop 4 (now (left .entry)))
+    ] ⌝ }
 {
     let [a, b, c, d, rest @ ..] = left else {
         return None;
@@ -48,7 +51,10 @@ fn read_header<'a>(left: &'a [u8]) -> Option<Header<'a>>
 }
 
 fn read_node<'a>(body: &'a [u8]) -> Option<Record<'a>>
-    ensures { λ r. ⌜ elim r [ None ↦ (length (now (body .entry)) ≡ 20 → ⊥) | Some n ↦ (length (now (body .entry)) ≡ 20) × (entry-of n ≡ node-of (now (body .entry))) ] ⌝ }
+    ensures { λ r. ⌜ elim r [
+      | None ↦ (length (now (body .entry)) ≡ 20 → ⊥)
+      | Some n ↦ (length (now (body .entry)) ≡ 20) × (entry-of n ≡ node-of (now (body .entry)))
+    ] ⌝ }
 {
     let [
         r0,
@@ -204,7 +210,10 @@ impl<'a> Reader<'a> {
     pub fn next(&mut self) -> Result<Option<Placed<'a>>, LoadFault>
         ensures said { λ r. ⌜ step-said r (now (self .exit) .at) ≡ step-at (now (now (self .entry) .file)) (now (self .entry) .at) ⌝ }
         ensures file { λ r. ⌜ now (now (self .exit) .file) ≡ now (now (self .entry) .file) ⌝ }
-        ensures place { λ r. ⌜ elim r [ Err f ↦ now (self .exit) .at ≡ now (self .entry) .at | Ok o ↦ elim o [ None ↦ now (self .exit) .at ≡ now (self .entry) .at | Some p ↦ now (self .entry) .at < now (self .exit) .at ] ] ⌝ }
+        ensures place { λ r. ⌜ elim r [
+          | Err f ↦ now (self .exit) .at ≡ now (self .entry) .at
+          | Ok o ↦ elim o [ None ↦ now (self .exit) .at ≡ now (self .entry) .at | Some p ↦ now (self .entry) .at < now (self .exit) .at ]
+        ] ⌝ }
     {
         let at = self.at;
         match read_part(&self.file[at..], at)? {

@@ -1,6 +1,5 @@
 // The table of a node: its numbers and 0 to 16 tasks, the most urgent first, with every limit in the type.
-ghost use mathlib.Core.Path.{_≡_};
-ghost use Prim.Native.Nat.{ℕ, _-_, _<_, _≤_};
+ghost use Prim.Native.Nat.{_-_, _≤_};
 ghost use Rattle.model.specs.Tasks.{Sized, Timed, Payable, Lawful-rate, Lawful-store, Each};
 ghost use Rattle.table.specs.Names.{Short, Graphic, Each-name};
 use crate::name::Name;

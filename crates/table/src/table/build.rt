@@ -24,9 +24,10 @@ fn in_limits(task: &Task) -> bool
 }
 
 impl Table {
-    // The least table that there is, for a caller that lends one to be filled.
-    pub fn empty() -> Table
-        ensures { λ r. ⌜ contents-of r ≡ bare 1 0 0 ⌝ }
+    // A table of lawful numbers with no tasks.
+    fn without_tasks(rate: u32, floor: u64, cap: u64) -> Table
+        requires { ⌜ Lawful-node rate floor cap ⌝ }
+        ensures { λ r. ⌜ contents-of r ≡ bare rate floor cap ⌝ }
     {
         let none = Task {
             units: 0,
@@ -35,41 +36,41 @@ impl Table {
             draw: 0,
         };
         Table {
-            rate: 1,
-            floor: 0,
-            cap: 0,
-            tasks: [none; 16],
-            names: [Name::NONE; 16],
-            count: 0,
-        }
-    }
-
-    // A table with no tasks, or a refusal of its numbers.
-    pub fn new(rate: u32, floor: u64, cap: u64) -> Result<Table, Refusal>
-        ensures { λ r. ⌜ elim r [ Ok t ↦ Lawful-node rate floor cap × (contents-of t ≡ bare rate floor cap) | Err e ↦ (Lawful-node rate floor cap → ⊥) × (e ≡ OutsideLimits) ] ⌝ }
-    {
-        if rate < 1 || rate > 1_000_000_000 || floor > cap || cap > 8_000_000_000 {
-            return Err(Refusal::OutsideLimits);
-        }
-        let none = Task {
-            units: 0,
-            period: 0,
-            deadline: 0,
-            draw: 0,
-        };
-        Ok(Table {
             rate,
             floor,
             cap,
             tasks: [none; 16],
             names: [Name::NONE; 16],
             count: 0,
-        })
+        }
+    }
+
+    // The least table that there is, for a caller that lends one to be filled.
+    pub fn empty() -> Table
+        ensures { λ r. ⌜ contents-of r ≡ bare 1 0 0 ⌝ }
+    {
+        Table::without_tasks(1, 0, 0)
+    }
+
+    // A table with no tasks, or a refusal of its numbers.
+    pub fn new(rate: u32, floor: u64, cap: u64) -> Result<Table, Refusal>
+        ensures { λ r. ⌜ elim r [
+          | Ok t ↦ Lawful-node rate floor cap × (contents-of t ≡ bare rate floor cap)
+          | Err e ↦ (Lawful-node rate floor cap → ⊥) × (e ≡ OutsideLimits)
+        ] ⌝ }
+    {
+        if rate < 1 || rate > 1_000_000_000 || floor > cap || cap > 8_000_000_000 {
+            return Err(Refusal::OutsideLimits);
+        }
+        Ok(Table::without_tasks(rate, floor, cap))
     }
 
     // The table with one task more, less urgent than the others, or a refusal of that task.
     pub fn with_task(self, task: Task, name: &[u8]) -> Result<Table, Refusal>
-        ensures { λ r. ⌜ elim r [ Ok t ↦ Allowed (contents-of self) task (now (name .entry)) × (contents-of t ≡ extended (contents-of self) task (now (name .entry))) | Err e ↦ Turned-away (contents-of self) task (now (name .entry)) e ] ⌝ }
+        ensures { λ r. ⌜ elim r [
+          | Ok t ↦ Allowed (contents-of self) task (now (name .entry)) × (contents-of t ≡ extended (contents-of self) task (now (name .entry)))
+          | Err e ↦ Turned-away (contents-of self) task (now (name .entry)) e
+        ] ⌝ }
     {
         if name.len() < 1 || name.len() > 12 {
             return Err(Refusal::WrongLength);

@@ -1,7 +1,7 @@
 // Reading what a table holds.
 ghost use mathlib.Core.Path.{_≡_};
 ghost use mathlib.Core.List.{[]};
-ghost use Prim.Native.Nat.{ℕ, _-_, _<_, _≤_};
+ghost use Prim.Native.Nat.{_<_, _≤_};
 ghost use lib.ListN.{length, getD};
 ghost use Rattle.std.specs.declared.option.Option.the-variants.{Some, None};
 ghost use Rattle.model.specs.Tasks.{Lawful-rate, Lawful-tasks};
@@ -30,7 +30,10 @@ impl Table {
 
     // The name of the task at an index.
     pub fn name(&self, index: usize) -> Option<Name>
-        ensures { λ r. ⌜ elim r [ None ↦ length (task-list (now (self .entry))) ≤ index | Some n ↦ (index < length (name-list (now (self .entry)))) × (name-bytes n ≡ getD (name-list (now (self .entry))) index []) × Short (name-bytes n) ] ⌝ }
+        ensures { λ r. ⌜ elim r [
+          | None ↦ length (task-list (now (self .entry))) ≤ index
+          | Some n ↦ (index < length (name-list (now (self .entry)))) × (name-bytes n ≡ getD (name-list (now (self .entry))) index []) × Short (name-bytes n)
+        ] ⌝ }
     {
         if index < self.count {
             Some(self.names[index])

@@ -7,7 +7,6 @@ use lib.ListN.{length, getD, set, length-set, length-take}
 use lib.Seq.{getD-set-same, getD-set-other, getD-take}
 use native.Mathlib.Omega.{arith}
 use borrow.Author.Count.{below-more}
-use borrow.Author.Needs.{needs}
 use Rattle.std.specs.Options.{isSome}
 use Rattle.std.specs.Orderings.{Decides}
 use Rattle.std.proofs.shelf.Ways.{decides-and, decides-like, decides-at}
@@ -40,7 +39,7 @@ loop-index-again c =
     let i = c .loop-index .index in
     let found = c .task-bounds-found .result in
     let of : Bounds-of (c .args .rate) ts i found = c .task-bounds-found .ensures in
-    let room : i < length (c .loop-index .bounds) = omega (arith, c .loop-index .inv .0, c .pre .few) in (
+    let room : i < length (c .loop-index .bounds) = omega (arith, c .loop-index .inv .0, c .pre .1 .few) in (
       length-set (c .loop-index .bounds) i found ∙ c .loop-index .inv .0,
       bounds-more (c .args .rate) ts i (c .loop-index .bounds) found room (c .loop-index .inv .1) of,
       decides-below-more (λ k. (window : ℕ) × Fits (c .args .rate) ts k window) i (c .loop-index .accepted) (c .is-some-accepted .result)
@@ -57,7 +56,7 @@ returns c =
     record {
       count = refl;
       bounds = record {
-        count = omega (arith, length-take (length ts) bs, c .loop-index .inv .0, c .pre .few);
+        count = omega (arith, length-take (length ts) bs, c .loop-index .inv .0, c .pre .1 .few);
         each = λ k h. subst (Bounds-of (c .args .rate) ts k) (sym (getD-take (length ts) bs k no-bounds h)) (c .loop-index .inv .1 k (omega arith));
       };
       accepted =

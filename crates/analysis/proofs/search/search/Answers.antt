@@ -1,17 +1,10 @@
 use Prim.Native.Nat.{ℕ, _+_, _≤_, _<_}
 use mathlib.Core.Path.{_≡_, refl, subst}
-use mathlib.Core.Logic.{⊎-elim}
 use native.Mathlib.Omega.{arith}
-use Rattle.std.proofs.shelf.Tests.{cases-lt}
-use Rattle.std.specs.declared.option.Option.{Option}
 use Rattle.std.specs.declared.option.Option.the-variants.{Some, None}
-use Rattle.model.specs.Windows.{Rising, Rounds, found, above, again}
+use Rattle.model.specs.Windows.{Rounds, found, above, again}
+use Rattle.model.proofs.Searches.{exceeded-up-to-value}
 use Rattle.analysis.proofs.search.search.Needs as need
-
--- What is exceeded below a window is exceeded below the curve's value there.
-exceeded-below-value : (curve : ℕ → ℕ) (w : ℕ) → Rising curve → ((v : ℕ) → 1 ≤ v → v < w → v < curve v)
-    → (v : ℕ) → 1 ≤ v → v < curve w → v < curve v
-exceeded-below-value curve w rises below v a b = ⊎-elim (λ l. below v a l) (λ k. omega (arith, rises w v k)) (cases-lt v w)
 
 pub loop-window-again : need.loop-window-again
 loop-window-again g c =
@@ -23,7 +16,7 @@ loop-window-again g c =
       omega arith,
       omega arith,
       omega (arith, c .loop-window .inv .2),
-      (λ v a b. exceeded-below-value f w (c .at-needed .ensures .rises) (c .loop-window .inv .3) v a (omega arith)),
+      (λ v a b. exceeded-up-to-value f w (c .at-needed .ensures .rises) (c .loop-window .inv .3) v a (omega arith)),
       (λ r n m em go. c .loop-window .inv .4 r (n + 1) m (omega arith) (again w r n lt le (subst (λ x. Rounds f (c .args .deadline) x r n) e go))),
     )
 
@@ -47,7 +40,7 @@ returns-then-needed-deadline g c =
     let lt : w < f w = omega arith in
     let gt : c .args .deadline < f w = omega arith in
     record {
-      least = λ v a b. exceeded-below-value f w (c .at-needed .ensures .rises) (c .loop-window .inv .3) v a (omega arith);
+      least = λ v a b. exceeded-up-to-value f w (c .at-needed .ensures .rises) (c .loop-window .inv .3) v a (omega arith);
       rounds = c .loop-window .inv .4 None 1 (c .loop-window .rounds + 1) refl (above w lt gt);
       few = omega (arith, c .loop-window .inv .1, c .loop-window .inv .2);
     }

@@ -1,17 +1,16 @@
-use Prim.Native.Nat.{ℕ, _+_, _≤_, _<_}
+use Prim.Native.Nat.{_+_, _≤_, _<_}
 use mathlib.Core.Path.{_≡_, _∙_, ap, sym, subst}
-use mathlib.Core.List.{List, _++_, [], append-nil}
-use lib.ListN.{length, getD, drop, take, length-take}
+use mathlib.Core.List.{_++_, [], append-nil}
+use lib.ListN.{length, getD, drop, length-take}
 use native.Mathlib.Omega.{arith}
 use borrow.Author.Needs.{needs}
-use Rattle.std.proofs.shelf.Lists.{drop-all, getD-take, length-map}
+use Rattle.std.proofs.shelf.Lists.{drop-all, getD-take}
 use Rattle.model.specs.Tasks.{no-task, Sized, Timed}
-use Rattle.table.specs.Names.{name-bytes}
 use Rattle.table.specs.Tables.{name-list, task-list}
 use Rattle.analysis.specs.Verdicts.{Bounds-of, no-bounds, bounds-list}
 use Rattle.listing.specs.Listings.{task-line, lines-text}
 use Rattle.listing.specs.Texts.{written}
-use Rattle.listing.proofs.Rows.{lines-none, line-more, Small, bounds-small, few-tasks}
+use Rattle.listing.proofs.Rows.{lines-none, line-more, bounds-small, few-tasks}
 use Rattle.listing.proofs.list.put_lines.Needs as need
 use Rattle.listing.proofs.list.put_lines.Needs.{in-Some, in-rest}
 
@@ -37,7 +36,7 @@ put-line-requires c κs =
     let short : length (c .as-bytes .result .now) ≤ 12 = subst (λ b. length b ≤ 12) (sym (c .as-bytes .ensures)) (told .2 .1) in
     record {
       short = short;
-      limits = (small .time, (small .greater, (small .safe, small .rounds)));
+      limits = search needs;
       room = omega (arith, c .loop-index .inv .1, few .0);
     }
 

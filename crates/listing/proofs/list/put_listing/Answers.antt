@@ -1,6 +1,6 @@
 use mathlib.Core.Path.{_≡_, _∙_, ap, sym, subst}
 use mathlib.Core.Bool.{false}
-use mathlib.Core.List.{List, _++_, []}
+use mathlib.Core.List.{_++_, []}
 use lib.ListN.{take}
 use Rattle.listing.specs.Lines.{refused-text}
 use Rattle.listing.specs.Listings.{Listing, of-refusal}

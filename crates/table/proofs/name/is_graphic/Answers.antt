@@ -1,9 +1,4 @@
-use mathlib.Core.Path.{_≡_, _∙_, sym, ap}
-use mathlib.Core.Logic.{⊎-elim}
-use mathlib.Core.Bool.{true, false}
-use lib.ListN.{length, drop}
-use native.Mathlib.Omega.{arith}
-use borrow.Author.Needs.{needs}
+use mathlib.Core.Path.{_∙_, sym, ap}
 use Rattle.std.proofs.shelf.Lists.{drop-all}
 use Rattle.table.specs.Names.{graphic}
 use Rattle.table.proofs.Letters.{graphic-passes, graphic-low, graphic-high}

@@ -1,4 +1,3 @@
-use Prim.Native.Nat.{max}
 use mathlib.Core.Path.{_≡_, _∙_}
 use native.Mathlib.Omega.{arith}
 use borrow.Author.Needs.{needs}
@@ -8,7 +7,7 @@ use Rattle.analysis.proofs.curve.GreaterDemand.at.Needs as need
 
 pub returns : need.returns
 returns c =
-    let s = c .args .self .now in
+    let s = c .args .self .now .of in
     let energy : c .demand-sums .result .energy ≡ demand draw-weight (s .tasks .now) (s .index) (c .args .window) =
     c .demand-sums .ensures .energy ∙ demand-same (safe-weight 0) draw-weight (λ t. omega arith) (s .tasks .now) (s .index) (c .args .window) in
     record {

@@ -1,4 +1,3 @@
-use Prim.Native.Nat.{_≤_}
 use mathlib.Core.Path.{_≡_, _∙_, sym}
 use lib.ListN.{length}
 use native.Mathlib.Omega.{arith}

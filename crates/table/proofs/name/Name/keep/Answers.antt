@@ -2,7 +2,6 @@ use Prim.Native.Nat.{_≤_}
 use mathlib.Core.Path.{_≡_, _∙_, ap}
 use lib.ListN.{length, take}
 use native.Mathlib.Omega.{arith}
-use borrow.Author.Needs.{needs}
 use Rattle.std.proofs.shelf.Lists.{take-all, take-append-le}
 use Rattle.table.proofs.name.Name.keep.Needs as need
 

@@ -1,6 +1,6 @@
-use Prim.Native.Nat.{ℕ, _-_, _≤_, _<_}
+use Prim.Native.Nat.{_-_, _<_}
 use mathlib.Core.Path.{_≡_, ap, sym, subst, _∙_}
-use mathlib.Core.List.{List, _∷_, [], _++_}
+use mathlib.Core.List.{_∷_, [], _++_}
 use mathlib.Core.Logic.{⊎-elim}
 use denote.Ref.{now}
 use lib.ListN.{length, length-take}
@@ -8,7 +8,7 @@ use native.Mathlib.Omega.{arith}
 use borrow.Author.Needs.{needs}
 use Rattle.std.proofs.shelf.Ways.{not-from-decides}
 use Rattle.model.specs.Tasks.{no-task, Sized, Timed, Payable}
-use Rattle.table.specs.Limits.{Allowed, Turned-away, unnamed, full, outside, unpayable, misnamed}
+use Rattle.table.specs.Limits.{Allowed, unnamed, full, outside, unpayable, misnamed}
 use Rattle.table.specs.Names.{name-bytes, no-name, Short, graphic, Graphic}
 use Rattle.table.specs.Tables.{contents-of, name-list}
 use Rattle.table.proofs.Letters.{not-both}
