@@ -1,8 +1,13 @@
 // The bounds of every task of a table, and the verdict.
+ghost use mathlib.Core.Path.{_≡_};
+ghost use mathlib.Core.Bool.{true};
+ghost use Rattle.std.specs.Orderings.{Decides};
 ghost use Prim.Native.Nat.{_<_};
 ghost use lib.ListN.{length};
 ghost use Rattle.model.specs.Tasks.{Lawful-rate, Lawful-tasks};
-ghost use Rattle.table.specs.Tables.{task-list};
+ghost use Rattle.model.specs.OnTime.{Meets-deadlines};
+ghost use Rattle.model.specs.Setups.{One-sided};
+ghost use Rattle.table.specs.Tables.{task-list, setup-of};
 ghost use Rattle.analysis.specs.Verdicts.{Bounds-of, Verdict-of};
 use crate::curve::GreaterCurve;
 use crate::curve::GreaterDemand;
@@ -63,9 +68,12 @@ fn assess_tasks(rate: u32, tasks: &[Task]) -> Verdict
     }
 }
 
-// The bounds of every task of a table, and whether the table is accepted.
+// The bounds of every task of a table, and whether the table is accepted: an accepted table is never late, and a one-sided table
+// is accepted exactly if it never is.
 pub fn assess(table: &Table) -> Verdict
-    ensures { λ r. ⌜ Verdict-of (now (table .entry) .rate) (task-list (now (table .entry))) r ⌝ }
+    ensures verdict { λ r. ⌜ Verdict-of (now (table .entry) .rate) (task-list (now (table .entry))) r ⌝ }
+    ensures on_time { λ r. ⌜ (r .accepted ≡ true → Meets-deadlines (setup-of (now (table .entry)))) ⌝ }
+    ensures exact { λ r. ⌜ (One-sided (setup-of (now (table .entry))) → Decides (r .accepted) (Meets-deadlines (setup-of (now (table .entry))))) ⌝ }
 {
     assess_tasks(table.rate(), table.tasks())
 }

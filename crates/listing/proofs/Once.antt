@@ -12,10 +12,10 @@ use Rattle.std.proofs.shelf.Ways.{same-from-decides}
 use Rattle.model.specs.declared.task.Task.{Task}
 use Rattle.model.specs.Windows.{Accepted}
 use Rattle.model.proofs.Searches.{rounds-are-one}
-use Rattle.table.specs.declared.refusal.Refusal.{Refusal}
+use Rattle.model.specs.declared.refusal.Refusal.{Refusal}
 use Rattle.table.specs.Contents.{Contents}
 use Rattle.table.specs.Loading.{full, refused}
-use Rattle.table.specs.Refusals.{number-of}
+use Rattle.model.specs.Refusals.{number-of}
 use Rattle.table.proofs.Once.{one-load}
 use Rattle.analysis.specs.declared.verdict.Bound.{Bound}
 use Rattle.analysis.specs.declared.verdict.TaskBounds.{TaskBounds}

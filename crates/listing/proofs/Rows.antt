@@ -10,13 +10,13 @@ use Rattle.std.specs.declared.option.Option.{Option}
 use Rattle.std.specs.declared.option.Option.the-variants.{Some, None}
 use Rattle.model.specs.declared.task.Task.{Task}
 use Rattle.model.specs.Tasks.{no-task, Sized, Timed}
+use Rattle.model.specs.OnTime.{At-most}
 use Rattle.model.specs.Windows.{Least-window}
 use Rattle.model.proofs.Searches.{few-rounds}
 use Rattle.table.specs.declared.table.Table.{Table}
 use Rattle.table.specs.Tables.{task-list}
 use Rattle.analysis.specs.declared.verdict.TaskBounds.{TaskBounds}
 use Rattle.analysis.specs.Verdicts.{Bounds-of, no-bounds}
-use Rattle.listing.specs.Lines.{At-most}
 use Rattle.listing.specs.Listings.{task-line, lines-text}
 
 pub lines-none : (names : List (List ℕ)) → lines-text names [] ≡ []

@@ -1,16 +1,11 @@
 -- The lines of a listing, as bytes.
-use Prim.Native.Nat.{ℕ, _≤_}
+use Prim.Native.Nat.{ℕ}
 use mathlib.Core.Bool.{Bool, true, false}
 use mathlib.Core.List.{List, _++_}
 use lib.Chars.{codes}
 use Rattle.std.specs.Written.{decimal}
 use Rattle.std.specs.declared.option.Option.{Option}
 use Rattle.std.specs.declared.option.Option.the-variants.{Some, None}
-
--- a bound that is present is not above a limit
-abbrev pub At-most : ℕ → Option ℕ → Type 0
-At-most limit None = Unit {0}
-At-most limit (Some n) = n ≤ limit
 
 -- an absent bound is a minus sign
 abbrev pub bound-text : Option ℕ → List ℕ

@@ -11,11 +11,11 @@ use Rattle.std.specs.Orderings.{Decides}
 use Rattle.std.specs.declared.result.Result.{Result}
 use Rattle.std.specs.declared.result.Result.the-variants.{Ok, Err}
 use Rattle.model.specs.Windows.{Accepted}
-use Rattle.table.specs.declared.refusal.Refusal.{Refusal}
-use Rattle.table.specs.declared.refusal.Refusal.the-variants.{OutputTooShort}
+use Rattle.model.specs.declared.refusal.Refusal.{Refusal}
+use Rattle.model.specs.declared.refusal.Refusal.the-variants.{OutputTooShort}
 use Rattle.table.specs.Contents.{Contents}
 use Rattle.table.specs.Loading.{Loads, full, refused}
-use Rattle.table.specs.Refusals.{number-of}
+use Rattle.model.specs.Refusals.{number-of}
 use Rattle.analysis.specs.declared.verdict.TaskBounds.{TaskBounds}
 use Rattle.analysis.specs.Verdicts.{All-bounds}
 use Rattle.listing.specs.declared.list.Listed.{Listed}

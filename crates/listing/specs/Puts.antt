@@ -5,7 +5,7 @@ use mathlib.Core.List.{List}
 use Prim.Native.Nat.{ℕ}
 use Rattle.std.specs.declared.result.Result.{Result}
 use Rattle.std.specs.declared.result.Result.the-variants.{Ok, Err}
-use Rattle.table.specs.declared.refusal.LoadFault.{LoadFault}
+use Rattle.table.specs.declared.fault.LoadFault.{LoadFault}
 use Rattle.table.specs.Loading.{Loads, refused}
 use Rattle.listing.specs.declared.text.Text.{Text}
 use Rattle.listing.specs.Listings.{Listing}

@@ -4,7 +4,8 @@ ghost use mathlib.Core.List.{_++_};
 ghost use Prim.Native.Nat.{_+_, _≤_};
 ghost use lib.Chars.{codes};
 ghost use lib.ListN.{length};
-ghost use Rattle.listing.specs.Lines.{At-most, bound-text, line-text, outcome-text, refused-text, verdict-text};
+ghost use Rattle.model.specs.OnTime.{At-most};
+ghost use Rattle.listing.specs.Lines.{bound-text, line-text, outcome-text, refused-text, verdict-text};
 ghost use Rattle.listing.specs.Texts.{written};
 use crate::text::Text;
 

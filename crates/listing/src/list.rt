@@ -14,9 +14,9 @@ use crate::text::Text;
 use crate::text::copy::copy_out;
 use analysis::assess::assess;
 use analysis::verdict::Verdict;
+use model::refusal::Refusal;
+use table::fault::LoadFault;
 use table::load::load;
-use table::refusal::LoadFault;
-use table::refusal::Refusal;
 use table::table::Table;
 
 // A listing that was written: the length of its text, and whether the table is accepted.

@@ -2,7 +2,7 @@
 --   job-count-rises, job-count-within       more jobs in a longer window, and never more jobs than slots
 --   demand-rises, demand-positive           of any weight
 --   time-, greater- and safe-curve-rises and -positive   of lawful tasks
-use Prim.Native.Nat.{ℕ, zero, suc, _+_, _-_, _*_, _/_, _≤_, _<_}
+use Prim.Native.Nat.{ℕ, zero, suc, _+_, _-_, _*_, _≤_, _<_}
 use mathlib.Core.Path.{_≡_, refl, ap}
 use mathlib.Core.List.{List, [], _∷_}
 use lib.ListN.{length, getD}

@@ -3,3 +3,13 @@ pub mod Demand
 pub mod Windows
 pub mod Laws
 pub mod Cases
+pub mod Refusals
+pub mod Setups
+pub mod Energy
+pub mod Slots
+pub mod Releases
+pub mod Orders
+pub mod Histories
+pub mod OnTime
+pub mod Worst
+pub mod HistoryLaws

@@ -4,7 +4,7 @@
 --   Lawful-rate, Lawful-store   what rate, floor and cap keep
 --   Each                   a fact of each of the first n tasks
 --   Lawful-tasks           at most 16 tasks, each of them lawful
-use Prim.Native.Nat.{ℕ, _-_, _≤_, _<_}
+use Prim.Native.Nat.{ℕ, _≤_, _<_}
 use mathlib.Core.List.{List}
 use lib.ListN.{length, getD}
 use Rattle.model.specs.declared.task.Task.{Task}
@@ -30,7 +30,7 @@ abbrev pub Lawful-rate : ℕ → Type 0
 Lawful-rate rate = (1 ≤ rate) × (rate ≤ 1000000000)
 
 abbrev pub Lawful-store : ℕ → ℕ → Type 0
-Lawful-store floor ceiling = (floor ≤ ceiling) × (ceiling ≤ 8000000000)
+Lawful-store floor top = (floor ≤ top) × (top ≤ 8000000000)
 
 -- a fact of each of the first n tasks of a list
 abbrev pub Each : (Task → Type 0) → List Task → ℕ → Type 0

@@ -5,7 +5,7 @@
 --   largest-window     how far a task's bound may reach
 --   Fits               a window that holds a task's demand
 --   Accepted           every task has a window that fits
-use Prim.Native.Nat.{ℕ, suc, _+_, _≤_, _<_}
+use Prim.Native.Nat.{ℕ, _+_, _≤_, _<_}
 use mathlib.Core.List.{List}
 use lib.ListN.{length, getD}
 use Rattle.std.specs.declared.option.Option.{Option}

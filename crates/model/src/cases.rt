@@ -1,4 +1,4 @@
-// Tables whose bounds are known by hand, as theorems.
+// Tables whose bounds and slots are known by hand, as theorems.
 ghost use Rattle.model.specs.Cases.{Worked-cases};
 
 pub fn worked_cases()

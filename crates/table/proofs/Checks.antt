@@ -7,8 +7,8 @@ use lib.ListN.{length}
 use native.Mathlib.Omega.{arith}
 use Rattle.model.specs.declared.task.Task.{Task}
 use Rattle.model.specs.Tasks.{Sized, Timed, Payable}
-use Rattle.table.specs.declared.refusal.Refusal.{Refusal}
-use Rattle.table.specs.declared.refusal.Refusal.the-variants.{WrongLength, OutsideLimits, TooManyTasks, WrongName, DrawAboveRoom}
+use Rattle.model.specs.declared.refusal.Refusal.{Refusal}
+use Rattle.model.specs.declared.refusal.Refusal.the-variants.{WrongLength, OutsideLimits, TooManyTasks, WrongName, DrawAboveRoom}
 use Rattle.table.specs.Contents.{Contents, room}
 use Rattle.table.specs.Limits.{Allowed, Turned-away, unnamed, full, outside, unpayable, misnamed}
 use Rattle.table.specs.Names.{Short, Graphic}

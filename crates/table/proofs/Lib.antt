@@ -1,5 +1,6 @@
 mod Steps
 mod Rows
+pub mod Setups
 mod Letters
 mod Walks
 mod Checks

@@ -3,8 +3,8 @@ use Prim.Native.Nat.{ℕ}
 use mathlib.Core.Path.{_≡_, refl, sym, subst, _∙_, ap}
 use mathlib.Core.List.{List}
 use mathlib.Core.Logic.{_⊎_, inl, inr}
-use Rattle.table.specs.declared.refusal.Refusal.{Refusal}
-use Rattle.table.specs.declared.refusal.Refusal.the-variants.{WrongPlace, OutsideLimits}
+use Rattle.model.specs.declared.refusal.Refusal.{Refusal}
+use Rattle.model.specs.declared.refusal.Refusal.the-variants.{WrongPlace, OutsideLimits}
 use Rattle.table.specs.Contents.{Contents, bare, extended}
 use Rattle.table.specs.Layout.{node, task}
 use Rattle.table.specs.Laws.{One-load}

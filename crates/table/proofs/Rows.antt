@@ -32,8 +32,8 @@ pub contents-are : (rate floor top : ℕ) (ts us : List Task) (ns ms : List (Lis
 contents-are rate floor top ts us ns ms p q = cc
 
 -- What holds of each of the first n elements holds of each element of the list of these.
-pub each-front : {X : Type 0} (P : X → Type 0) (xs : List X) (n : ℕ) (d : X) → n ≤ length xs →
+pub each-front : {X : Type 0} (P : X → Type 0) (xs : List X) (n : ℕ) (d : X) →
     ((k : ℕ) → k < n → P (getD xs k d)) → (k : ℕ) → k < length (take n xs) → P (getD (take n xs) k d)
-each-front P xs n d le h k l =
+each-front P xs n d h k l =
     let lt : k < n = omega (arith, length-take n xs) in
     rw (getD-take n xs k d lt) (h k lt)

@@ -6,8 +6,8 @@ use Prim.Native.Nat.{ℕ}
 use mathlib.Core.Path.{_≡_}
 use mathlib.Core.List.{List}
 use Rattle.model.specs.declared.task.Task.{Task}
-use Rattle.table.specs.declared.refusal.Refusal.{Refusal}
-use Rattle.table.specs.declared.refusal.Refusal.the-variants.{WrongPlace, OutsideLimits}
+use Rattle.model.specs.declared.refusal.Refusal.{Refusal}
+use Rattle.model.specs.declared.refusal.Refusal.the-variants.{WrongPlace, OutsideLimits}
 use Rattle.table.specs.Contents.{Contents, bare, extended}
 use Rattle.table.specs.Layout.{node, task}
 use Rattle.table.specs.Limits.{Allowed, Turned-away, Lawful-node}

@@ -5,7 +5,7 @@ use Rattle.std.specs.declared.option.Option.{Option}
 use Rattle.std.specs.declared.option.Option.the-variants.{Some, None}
 use Rattle.std.specs.declared.result.Result.{Result}
 use Rattle.std.specs.declared.result.Result.the-variants.{Ok, Err}
-use Rattle.table.specs.declared.refusal.LoadFault.{LoadFault}
+use Rattle.table.specs.declared.fault.LoadFault.{LoadFault}
 use Rattle.table.specs.declared.read.Record.{Record}
 use Rattle.table.specs.declared.read.Record.the-variants.{Node, Task}
 use Rattle.table.specs.declared.read.Placed.{Placed}

@@ -1,7 +1,7 @@
 -- What the loader's answers say. This file names the table, so the table's own file does not import it.
 use Rattle.std.specs.declared.result.Result.{Result}
 use Rattle.std.specs.declared.result.Result.the-variants.{Ok, Err}
-use Rattle.table.specs.declared.refusal.LoadFault.{LoadFault}
+use Rattle.table.specs.declared.fault.LoadFault.{LoadFault}
 use Rattle.table.specs.declared.table.Table.{Table}
 use Rattle.table.specs.Loading.{Loaded, full, refused}
 use Rattle.table.specs.Tables.{contents-of}

@@ -4,8 +4,8 @@ use mathlib.Core.Bool.{cond}
 use mathlib.Core.List.{List}
 use lib.Dec.{ltb, eqb}
 use lib.ListN.{drop, take, length}
-use Rattle.table.specs.declared.refusal.Refusal.{Refusal}
-use Rattle.table.specs.declared.refusal.Refusal.the-variants.{PastEnd, UnknownKind, WrongLength}
+use Rattle.model.specs.declared.refusal.Refusal.{Refusal}
+use Rattle.model.specs.declared.refusal.Refusal.the-variants.{PastEnd, UnknownKind, WrongLength}
 use Rattle.table.specs.Bytes.{le2, le4, le8}
 use Rattle.table.specs.Layout.{Entry, node, task}
 

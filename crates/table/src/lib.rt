@@ -1,7 +1,7 @@
-// Tables: refusals, the table with its limits in its type, and the way from a file's bytes to a table.
+// Tables: the table with its limits in its type, and the way from a file's bytes to a table.
+pub mod fault;
 pub mod laws;
 pub mod load;
 pub mod name;
 pub mod read;
-pub mod refusal;
 pub mod table;

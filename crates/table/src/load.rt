@@ -6,11 +6,11 @@ ghost use Rattle.table.specs.Files.{file-bytes};
 ghost use Rattle.table.specs.Loading.{Loaded, Tasks, Loads};
 ghost use Rattle.table.specs.Outcomes.{loaded-table, loaded-into};
 ghost use Rattle.table.specs.Tables.{contents-of};
+use crate::fault::LoadFault;
 use crate::read::Reader;
 use crate::read::Record;
-use crate::refusal::LoadFault;
-use crate::refusal::Refusal;
 use crate::table::Table;
+use model::refusal::Refusal;
 
 // The tasks from the reader's place on, added to a table.
 fn load_tasks(reader: &mut Reader<'_>, start: Table) -> Result<Table, LoadFault>

@@ -8,8 +8,8 @@ ghost use Rattle.std.specs.declared.result.Result.the-variants.{Ok, Err};
 ghost use Rattle.table.specs.Bytes.{le2};
 ghost use Rattle.table.specs.Reading.{node-of, task-of, body-step, part-step, step-at};
 ghost use Rattle.table.specs.Means.{entry-of, step-said, body-said, part-said};
-use crate::refusal::LoadFault;
-use crate::refusal::Refusal;
+use crate::fault::LoadFault;
+use model::refusal::Refusal;
 use model::task::Task;
 
 // A record of the file; a task's name is lent by the file.

@@ -2,15 +2,15 @@
 ghost use mathlib.Core.Path.{_≡_};
 ghost use Rattle.std.specs.Orderings.{Decides};
 ghost use Rattle.std.specs.declared.result.Result.the-variants.{Ok, Err};
-ghost use Rattle.table.specs.declared.refusal.Refusal.the-variants.{OutsideLimits};
+ghost use Rattle.model.specs.declared.refusal.Refusal.the-variants.{OutsideLimits};
 ghost use Rattle.model.specs.Tasks.{Sized, Timed};
 ghost use Rattle.table.specs.Contents.{bare, extended};
 ghost use Rattle.table.specs.Limits.{Allowed, Turned-away, Lawful-node};
 ghost use Rattle.table.specs.Tables.{contents-of};
 use crate::name::Name;
 use crate::name::is_graphic;
-use crate::refusal::Refusal;
 use crate::table::Table;
+use model::refusal::Refusal;
 use model::task::Task;
 
 fn in_limits(task: &Task) -> bool

@@ -1,6 +1,6 @@
 use mathlib.Core.Path.{refl}
 use native.Mathlib.Omega.{arith}
-use Rattle.table.specs.declared.refusal.Refusal.the-variants.{OutputTooShort}
+use Rattle.model.specs.declared.refusal.Refusal.the-variants.{OutputTooShort}
 use Rattle.listing.specs.Listings.{Fits-in, Too-long}
 use Rattle.listing.specs.Texts.{written}
 use Rattle.listing.proofs.Once.{only-where-it-fits, only-too-long}

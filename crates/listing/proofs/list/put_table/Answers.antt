@@ -13,5 +13,5 @@ returns c =
     let t = c .load .last .table in
     let text : written (c .put-verdict .last .text) ≡ lines-text (name-list t) (bounds-list v) ++ verdict-text (v .accepted) = cc in
     let told = of-table (contents-of t) (bounds-list v) (v .accepted) (c .in-Continue-load .ensures tt .loads)
-    (c .assess-verdict .ensures .bounds) (c .assess-verdict .ensures .accepted) in
+    (c .assess-verdict .ensures .verdict .bounds) (c .assess-verdict .ensures .verdict .accepted) in
     subst (λ x. Listing (c .args .file .now) x (v .accepted)) (sym text) told

@@ -1,4 +1,4 @@
--- The worked cases: each bound by one computed test, each search by its rounds.
+-- The worked cases: each bound by one computed test, each search by its rounds, each slot as it computes.
 use Prim.Native.Nat.{ℕ, zero, suc, _<_}
 use mathlib.Core.Path.{_≡_, refl}
 use mathlib.Core.Bool.{true}
@@ -12,7 +12,7 @@ use Rattle.model.specs.declared.task.Task.{Task}
 use Rattle.model.specs.Demand.{time-curve, greater-curve, safe-curve}
 use Rattle.model.specs.Windows.{found, above, again, Accepted}
 use Rattle.model.specs.Laws.{Time-bound, Greater-bound, Safe-bound, Safe-search, window-limit}
-use Rattle.model.specs.Cases.{case-rate, three-tasks, two-tasks}
+use Rattle.model.specs.Cases.{case-rate, three-tasks, two-tasks, pair-tasks}
 use Rattle.model.proofs.Searches.{present-fits, absent-fits-none}
 use Rattle.model.proofs.Computed.{is-least, is-least-tells}
 use Rattle.model.proofs.cases.worked_cases.Needs as need
@@ -81,4 +81,10 @@ returns c = record {
   two-bound = safe (two-tasks 21) 1 (Some 7) refl;
   two-accepted-at-7 = two-accepted;
   two-refused-at-6 = refused (two-tasks 6) 1 (safe (two-tasks 6) 1 None refl) (lit< tt);
+  acq-slots = (refl, refl, refl, refl);
+  log-slots = (refl, refl, refl);
+  together-slots = (refl, refl, refl);
+  apart-slots = (refl, refl, refl, refl);
+  costly-bound = safe pair-tasks 1 (Some 4) refl;
+  levels = (refl, refl);
 }

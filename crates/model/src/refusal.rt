@@ -1,6 +1,6 @@
-// Why a call is refused, and where in a file.
+// Why a call is refused.
 ghost use mathlib.Core.Path.{_≡_};
-ghost use Rattle.table.specs.Refusals.{number-of};
+ghost use Rattle.model.specs.Refusals.{number-of};
 
 #[derive(Clone, Copy)]
 pub enum Refusal {
@@ -20,8 +20,20 @@ pub enum Refusal {
     WrongName,
     // a unit's draw above the room between floor and cap
     DrawAboveRoom,
+    // the harvester promises less than the table's rate
+    PromiseTooLow,
+    // a start level outside floor to cap
+    LevelOutside,
+    // no task of that number
+    NoSuchTask,
+    // a job's units or draw outside the task's
+    OutsideTask,
     // the text does not fit the output
     OutputTooShort,
+    // a release less than a period after the task's last one
+    TooEarly,
+    // the clock is at its end, or would pass it
+    ClockEnd,
 }
 
 impl Refusal {
@@ -38,14 +50,13 @@ impl Refusal {
             Refusal::TooManyTasks => 6,
             Refusal::WrongName => 7,
             Refusal::DrawAboveRoom => 8,
+            Refusal::PromiseTooLow => 9,
+            Refusal::LevelOutside => 10,
+            Refusal::NoSuchTask => 11,
+            Refusal::OutsideTask => 12,
             Refusal::OutputTooShort => 13,
+            Refusal::TooEarly => 14,
+            Refusal::ClockEnd => 15,
         }
     }
-}
-
-// A refused file: the refusal, and the byte where the record starts.
-#[derive(Clone, Copy)]
-pub struct LoadFault {
-    pub refusal: Refusal,
-    pub at: usize,
 }
