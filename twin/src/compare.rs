@@ -1,14 +1,12 @@
 //! Comparing a tablecheck program with the twin, over edge and random files.
 
 use std::fmt;
-use std::io::{self, ErrorKind, Read, Write};
-use std::process::{Command, Stdio};
-use std::sync::mpsc;
-use std::thread;
+use std::io;
 use std::time::Duration;
 
 use crate::files::edges;
 use crate::listing::{Listing, Outcome, list};
+use crate::process::{run, show, show_hex, show_status};
 use crate::random::{Random, file};
 
 /// The program reads no more of a file than this.
@@ -108,66 +106,26 @@ fn answer(file: &[u8]) -> Listing {
 
 /// Runs the program on one file and shows a difference.
 fn agrees(program: &str, note: &str, file: &[u8], own: &Listing) -> io::Result<bool> {
-    let (text, status) = run(program, file)?;
+    let theirs = run(program, &[], file, PATIENCE)?;
     let own_status = if own.outcome == Outcome::Accepted {
         0
     } else {
         1
     };
-    if text == own.text && status == Some(own_status) {
+    if theirs.text == own.text && theirs.status == Some(own_status) {
         return Ok(true);
     }
     println!("difference in {note}, {} bytes:", file.len());
-    for row in file.chunks(32) {
-        let hex: String = row.iter().map(|byte| format!("{byte:02x}")).collect();
-        println!("  {hex}");
+    show_hex(file);
+    println!("{program}: status {}, output", show_status(theirs.status));
+    show(&theirs.text);
+    if !theirs.told.is_empty() {
+        println!("its standard error");
+        show(&theirs.told);
     }
-    let status = status.map_or("none (killed)".to_string(), |status| status.to_string());
-    println!("{program}: status {status}, output");
-    show(&text);
     println!("twin: status {own_status}, output");
     show(&own.text);
     Ok(false)
-}
-
-/// One line of text to a row, with all but printable bytes escaped.
-fn show(text: &[u8]) {
-    for line in text.split_inclusive(|&byte| byte == b'\n') {
-        println!("  {}", line.escape_ascii());
-    }
-}
-
-/// The program's standard output and exit status for this file; no status if
-/// it was killed, here with its output dropped.
-fn run(program: &str, file: &[u8]) -> io::Result<(Vec<u8>, Option<i32>)> {
-    let mut child = Command::new(program)
-        .stdin(Stdio::piped())
-        .stdout(Stdio::piped())
-        .spawn()?;
-    let mut stdin = child.stdin.take().expect("a piped standard input");
-    let mut stdout = child.stdout.take().expect("a piped standard output");
-    let (sender, receiver) = mpsc::channel();
-    let file = file.to_vec();
-    thread::spawn(move || {
-        // A program need not read a long file to its end.
-        let written = match stdin.write_all(&file) {
-            Err(error) if error.kind() != ErrorKind::BrokenPipe => Err(error),
-            _ => Ok(()),
-        };
-        drop(stdin);
-        let mut text = Vec::new();
-        let read = stdout.read_to_end(&mut text);
-        // The receiver may have given up.
-        let _ = sender.send(written.and(read).map(|_| text));
-    });
-    let text = match receiver.recv_timeout(PATIENCE) {
-        Ok(text) => text?,
-        Err(_) => {
-            child.kill()?;
-            Vec::new()
-        }
-    };
-    Ok((text, child.wait()?.code()))
 }
 
 #[cfg(test)]

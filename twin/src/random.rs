@@ -23,24 +23,24 @@ impl Random {
     }
 
     /// From 0 to `end` - 1.
-    fn below(&mut self, end: u64) -> u64 {
+    pub fn below(&mut self, end: u64) -> u64 {
         self.word() % end
     }
 
     /// From `low` to `high`, both included.
-    fn between(&mut self, low: u64, high: u64) -> u64 {
+    pub fn between(&mut self, low: u64, high: u64) -> u64 {
         low + self.below(high - low + 1)
     }
 
-    fn one_in(&mut self, count: u64) -> bool {
+    pub fn one_in(&mut self, count: u64) -> bool {
         self.below(count) == 0
     }
 
-    fn pick<T: Copy>(&mut self, items: &[T]) -> T {
+    pub fn pick<T: Copy>(&mut self, items: &[T]) -> T {
         items[self.below(items.len() as u64) as usize]
     }
 
-    fn index(&mut self, count: usize) -> usize {
+    pub fn index(&mut self, count: usize) -> usize {
         self.below(count as u64) as usize
     }
 }
@@ -56,7 +56,7 @@ pub fn file(random: &mut Random) -> Vec<u8> {
 
 /// How the draws of a table lie to its rate.
 #[derive(Clone, Copy, PartialEq, Eq)]
-enum Draws {
+pub enum Draws {
     Below,
     Above,
     Across,
@@ -141,7 +141,7 @@ pub fn lawful(random: &mut Random) -> Vec<Vec<u8>> {
     records
 }
 
-fn any_draw(random: &mut Random, draws: Draws, rate: u64, room: u64) -> u64 {
+pub fn any_draw(random: &mut Random, draws: Draws, rate: u64, room: u64) -> u64 {
     let above = match draws {
         Draws::Below => false,
         Draws::Above => true,
@@ -160,7 +160,7 @@ fn any_draw(random: &mut Random, draws: Draws, rate: u64, room: u64) -> u64 {
     }
 }
 
-fn any_name(random: &mut Random) -> Vec<u8> {
+pub fn any_name(random: &mut Random) -> Vec<u8> {
     if random.one_in(8) {
         return random
             .pick(&[&b"-"[..], b"accepted", b"!", b"~~~~~~~~~~~~", b"0"])

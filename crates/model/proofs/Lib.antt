@@ -1,15 +1,17 @@
 pub mod Computed
 pub mod Curves
 pub mod Searches
-mod Rule
-mod Sound
-mod SlotRule
-mod Reaching
-mod Soundness
-mod Turns
-mod Responses
-mod Counts
-mod HistoryLaws
+pub mod Rule
+pub mod Sound
+pub mod SlotRule
+pub mod Reaching
+pub mod Soundness
+pub mod Turns
+pub mod Responses
+pub mod Counts
+pub mod HistoryLaws
+pub mod CountBounds
+pub mod Reached
 mod Busy
 mod BusyRelease
 mod BusyDemand

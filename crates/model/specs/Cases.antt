@@ -6,6 +6,7 @@
 --   case-node, run-for            a node of a table, and some slots of it
 --   activity-in                   what a slot is used for
 --   together, apart               two tasks released at once, or one slot apart
+--   pair-tasks, released-full     the free and the costly task, and a full release of one of them
 --   Worked-cases                  the bounds, the rounds and the verdict of each table, and some of its slots
 use Prim.Native.Nat.{ℕ, zero, suc}
 use mathlib.Core.Path.{_≡_}
@@ -21,7 +22,7 @@ use Rattle.model.specs.Tasks.{no-task}
 use Rattle.model.specs.Windows.{Accepted}
 use Rattle.model.specs.Laws.{Time-bound, Greater-bound, Safe-bound, Safe-search}
 use Rattle.model.specs.Setups.{Setup}
-use Rattle.model.specs.Energy.{put-level}
+use Rattle.model.specs.Energy.{put-level, scaled}
 use Rattle.model.specs.Slots.{slot-step, slot-answer}
 use Rattle.model.specs.Releases.{release-step}
 use Rattle.model.specs.Histories.{fresh}
@@ -132,3 +133,5 @@ pub record Worked-cases : Type 0 where
   pub levels :
       (put-level (case-node []) 100 10 40 ≡ 70) ×
       (put-level (case-node []) 95 10 0 ≡ 100)
+  -- half of 15, rounded down
+  pub half-let-through : scaled 15 128 ≡ 7

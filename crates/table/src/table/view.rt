@@ -4,7 +4,7 @@ ghost use mathlib.Core.List.{[]};
 ghost use Prim.Native.Nat.{_<_, _≤_};
 ghost use lib.ListN.{length, getD};
 ghost use Rattle.std.specs.declared.option.Option.the-variants.{Some, None};
-ghost use Rattle.model.specs.Tasks.{Lawful-rate, Lawful-tasks};
+ghost use Rattle.model.specs.Tasks.{Lawful-rate, Lawful-store, Lawful-tasks};
 ghost use Rattle.table.specs.Names.{name-bytes, Short};
 ghost use Rattle.table.specs.Tables.{task-list, name-list, room-of};
 use crate::name::Name;
@@ -18,6 +18,22 @@ impl Table {
         ensures limits { λ r. ⌜ Lawful-rate r ⌝ }
     {
         self.rate
+    }
+
+    // The level that no draw may pass below.
+    pub fn floor(&self) -> u64
+        ensures value { λ r. ⌜ r ≡ now (self .entry) .floor ⌝ }
+        ensures limits { λ r. ⌜ Lawful-store r (now (self .entry) .cap) ⌝ }
+    {
+        self.floor
+    }
+
+    // The level that the store cannot pass.
+    pub fn cap(&self) -> u64
+        ensures value { λ r. ⌜ r ≡ now (self .entry) .cap ⌝ }
+        ensures limits { λ r. ⌜ Lawful-store (now (self .entry) .floor) r ⌝ }
+    {
+        self.cap
     }
 
     // The tasks, the most urgent first.

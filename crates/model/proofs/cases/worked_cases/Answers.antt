@@ -87,4 +87,5 @@ returns c = record {
   apart-slots = (refl, refl, refl, refl);
   costly-bound = safe pair-tasks 1 (Some 4) refl;
   levels = (refl, refl);
+  half-let-through = refl;
 }

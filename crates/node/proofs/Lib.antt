@@ -1,0 +1,4 @@
+mod Lines
+mod Reached
+mod Running
+mod Driving

@@ -1,0 +1,4 @@
+pub mod Marks
+pub mod Outcomes
+pub mod Starts
+pub mod Turns
