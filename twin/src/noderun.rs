@@ -197,8 +197,10 @@ pub fn run(
     let bounds = bounds(&table);
     let accepted = bounds.iter().all(|bounds| bounds.safe.window.is_some());
     run.accepted = Some(accepted);
-    let verdict = if accepted { "accepted" } else { "not accepted" };
-    writeln!(out, "table {verdict}")?;
+    if !setting.quiet {
+        let verdict = if accepted { "accepted" } else { "not accepted" };
+        writeln!(out, "table {verdict}")?;
+    }
 
     let mut node = match Node::start(&table, setting.harvester.clone(), setting.level) {
         Ok(node) => node,
@@ -357,7 +359,7 @@ clock 8 level 40 released 3 closed 2 finished 2
         assert!(good);
         let quiet: String = format!("{want}{TASKS}")
             .split_inclusive('\n')
-            .filter(|line| !line.starts_with("slot "))
+            .filter(|line| !line.starts_with("slot ") && !line.starts_with("table "))
             .collect();
         let (text, _, good) = ran("--quiet t 0 steady 10", &example(), orders);
         assert_eq!(text, quiet);

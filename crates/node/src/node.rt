@@ -133,7 +133,7 @@ impl<H: Harvester> Node<H> {
         ensures promise { λ _. ⌜
             H·Harvester .promised (now (self .exit) .harvester) ≡ H·Harvester .promised (now (self .entry) .harvester) ⌝ }
     {
-        let harvest = self.harvester.take();
+        let harvest = bring(&mut self.harvester);
         advance(&self.table, &mut self.state, harvest)
     }
 
@@ -250,6 +250,15 @@ impl<H: Harvester> Node<H> {
             longest: self.state.longest,
         }
     }
+}
+
+// What a harvester brings in the coming slot: it is taken from once.
+fn bring<H: Harvester>(harvester: &mut H) -> u32
+    ensures amount { λ r. ⌜ r ≡ H·Harvester .coming (now (harvester .entry)) ⌝ }
+    ensures same { λ _. ⌜ H·Harvester .promised (now (harvester .exit)) ≡ H·Harvester .promised (now (harvester .entry)) ⌝ }
+    ensures law { λ _. ⌜ Harvest (H·Harvester .promised (now (harvester .entry))) (H·Harvester .coming (now (harvester .entry))) ⌝ }
+{
+    harvester.take()
 }
 
 // 0 for an order that was done, else the number of its refusal.

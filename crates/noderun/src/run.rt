@@ -38,7 +38,9 @@ pub(crate) fn run<H: Harvester + Drop>(
     harvester: H,
 ) -> Result<bool, AnyError> {
     let mut out = BufWriter::new(rt.stdout());
-    show_verdict(&mut out, &plan.verdict)?;
+    if !plan.quiet {
+        show_verdict(&mut out, &plan.verdict)?;
+    }
     let good = match Node::start(plan.table, plan.level, harvester) {
         Ok(mut node) => {
             let good = do_lines(rt, &mut node, plan.quiet, &mut out)?;
