@@ -28,7 +28,7 @@ A list has at most 64 numbers, and an F above 256 counts as 256.
 
 An order is `release TASK UNITS DRAW`, with the task's number, or `slots N`. At most
 4,096 lines are read, of at most 200 bytes each; empty ones are passed over.
-With --quiet the slots are not printed.
+With --quiet only the orders and the report are printed.
 
 The exit status is 0 if the table was loaded, the node started and every line was an
 order, done or refused; else 1. Trouble is told on standard error.
