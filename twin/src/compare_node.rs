@@ -9,7 +9,7 @@ use std::time::Duration;
 
 use crate::compare::MOST_BYTES;
 use crate::histories::{FORMS, History, TABLE, history};
-use crate::node_edges::edges;
+use crate::node_edges::{clock_end, edges};
 use crate::noderun::{Run, parse, run};
 use crate::process::{self, show, show_hex, show_status};
 use crate::random::Random;
@@ -186,7 +186,8 @@ fn compare_in(
     seed: u64,
     count: u64,
 ) -> io::Result<Option<(usize, Tally)>> {
-    let edges = edges();
+    let mut edges = edges();
+    edges.push(clock_end());
     for (i, history) in edges.iter().enumerate() {
         let note = format!("edge history {}", i + 1);
         if !agrees(folder, program, &note, history, &answer(history)?)? {

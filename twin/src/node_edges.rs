@@ -103,6 +103,16 @@ pub fn with_arguments(file: Vec<u8>, words: &str) -> History {
     }
 }
 
+/// A node that one order of slots brings close to the clock's end and another
+/// one to it; too long to stand among the edges, which tests go through too.
+pub fn clock_end() -> History {
+    let mut history = with_arguments(example(), "--quiet TABLE 0 steady 10");
+    history.orders = b"slots 3999999990\nrelease 1 1 40\nrelease 2 3 0\nslots 11\nslots 10\n\
+        slots 0\nslots 1\nrelease 1 1 40\n"
+        .to_vec();
+    history
+}
+
 /// Lines that are no orders, mostly only just.
 pub fn no_orders() -> Vec<Vec<u8>> {
     let lines: [&[u8]; _] = [
