@@ -14,62 +14,51 @@ returns-then-name-lt1 c = unnamed (λ h. ⊎_elim (λ l. omega arith) (λ l. ome
 pub returns-then-at-ge16 : goal.returns-then-at-ge16
 returns-then-at-ge16 c = full (search rules) (simp length-take (omega arith))
 
-pub returns-then-not-in-limits : goal.returns-then-not-in-limits
-returns-then-not-in-limits c =
-    outside (search rules) (simp length-take (omega arith)) (not_from_Decides c.in-limits.result c.in-limits.ensures c.if-not-in-limits.true)
+pub returns-then-not-in_limits : goal.returns-then-not-in_limits
+returns-then-not-in_limits c =
+    outside (search rules) (simp length-take (omega arith)) (not_from_Decides c.in_limits.result c.in_limits.ensures c.if-not-in_limits.true)
 
 pub returns-then-task-self : goal.returns-then-task-self
 returns-then-task-self c =
-    let good = c.in-limits.ensures.0 c.if-not-in-limits.false in
+    let good = c.in_limits.ensures.0 c.if-not-in_limits.false in
     unpayable (search rules) (simp length-take (omega arith)) good.0 good.1 c.if-task-self.true
 
-pub returns-then-not-is-graphic : goal.returns-then-not-is-graphic
-returns-then-not-is-graphic c =
-    let good = c.in-limits.ensures.0 c.if-not-in-limits.false in
-    let wrong : Graphic c.args.name.now → ⊥ = not_both (graphic c.args.name.now) c.is-graphic.result c.is-graphic.ensures c.if-not-is-graphic.true in
+pub returns-then-not-is_graphic : goal.returns-then-not-is_graphic
+returns-then-not-is_graphic c =
+    let good = c.in_limits.ensures.0 c.if-not-in_limits.false in
+    let wrong : Graphic c.args.name.now → ⊥ = not_both (graphic c.args.name.now) c.is_graphic.result c.is_graphic.ensures c.if-not-is_graphic.true in
     misnamed (search rules) (simp length-take (omega arith)) good.0 good.1 c.if-task-self.false wrong
 
-pub invariant-of-result : goal.invariant-of-result
-invariant-of-result c =
+pub invariant_of-result : goal.invariant_of-result
+invariant_of-result c =
     let t = c.args.self in
-    let good = c.in-limits.ensures.0 c.if-not-in-limits.false in
+    let good = c.in_limits.ensures.0 c.if-not-in_limits.false in
     let lt : t.count < length t.tasks = search rules in
     let ln : t.count < length t.names = search rules in
     let kept : name_bytes c.keep.result ≡ c.args.name.now = c.keep.ensures in
     let short : Short (name_bytes c.keep.result) = subst Short (sym kept) (search rules) in
-    let lettered : Graphic (name_bytes c.keep.result) = subst Graphic (sym kept) (sym c.is-graphic.ensures ∙ c.if-not-is-graphic.false) in (
-      t.rated,
-      (
-        t.stored,
-        (
-          omega arith,
-          (
-            each_more Sized t.tasks t.count no_task c.args.task lt t.sized good.0,
-            (
-              each_more Timed t.tasks t.count no_task c.args.task lt t.timed good.1,
-              (
-                each_more (Payable (t.cap - t.floor)) t.tasks t.count no_task c.args.task lt t.payable c.if-task-self.false,
-                (
-                  each_more (λ n. Short (name_bytes n)) t.names t.count no_name c.keep.result ln t.short short,
-                  (each_more (λ n. Graphic (name_bytes n)) t.names t.count no_name c.keep.result ln t.graphic lettered, tt),
-                ),
-              ),
-            ),
-          ),
-        ),
-      ),
-    )
+    let lettered : Graphic (name_bytes c.keep.result) = subst Graphic (sym kept) (sym c.is_graphic.ensures ∙ c.if-not-is_graphic.false)
+    in record {
+      rated = t.rated;
+      stored = t.stored;
+      few = omega arith;
+      sized = each_more Sized t.tasks t.count no_task c.args.task lt t.sized good.0;
+      timed = each_more Timed t.tasks t.count no_task c.args.task lt t.timed good.1;
+      payable = each_more (Payable (t.cap - t.floor)) t.tasks t.count no_task c.args.task lt t.payable c.if-task-self.false;
+      short = each_more (λ n. Short (name_bytes n)) t.names t.count no_name c.keep.result ln t.short short;
+      graphic = each_more (λ n. Graphic (name_bytes n)) t.names t.count no_name c.keep.result ln t.graphic lettered;
+    }
 
 pub returns : goal.returns
 returns c =
     let t = c.args.self in
-    let good = c.in-limits.ensures.0 c.if-not-in-limits.false in
+    let good = c.in_limits.ensures.0 c.if-not-in_limits.false in
     let lt : t.count < length t.tasks = search rules in
     let ln : t.count < length t.names = search rules in
     let tasks = take_more_set t.tasks t.count c.args.task lt in
     let names = map_more_set name_bytes t.names t.count c.keep.result ln in
     let kept : name_bytes c.keep.result ≡ c.args.name.now = c.keep.ensures in
-    let lettered : Graphic c.args.name.now = sym c.is-graphic.ensures ∙ c.if-not-is-graphic.false in
+    let lettered : Graphic c.args.name.now = sym c.is_graphic.ensures ∙ c.if-not-is_graphic.false in
     let allowed : Allowed (contents_of t) c.args.task c.args.name.now = record {
       short = search rules;
       few = simp length-take (omega arith);
