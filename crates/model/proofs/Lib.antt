@@ -28,4 +28,5 @@ mod OnTimeAccepted
 mod DemandLaws
 mod RuleCases
 mod Drives
+pub mod Forgetting
 pub mod DeadlineTheorem

@@ -5,7 +5,7 @@
 --   since_of                    an open job was released by now
 --   clock_of, closed_of, finished_of, released_of   how far the clock and the counters can be
 --   slotted_to, released_to     the history with one slot or one release more
-use Rattle.std.proofs.Common.{◌≡◌, ℕ, ◌+◌, ◌*◌, ◌<◌, ◌≤◌, false, ltb, [], ◌∷◌, length, get_or, None, sym, refl, subst, arith}
+use Rattle.std.proofs.Common.{◌≡◌, ℕ, ◌+◌, ◌*◌, ◌<◌, ◌≤◌, false, ltb, length, get_or, None, sym, subst, arith}
 use mathlib.Core.Logic.{∥∥₁_elim, ∥∥₁_map}
 use native.Mathlib.Bridge.{le_prop}
 use native.Mathlib.Nat.{ℕ_set}
@@ -68,9 +68,9 @@ module _ (n : Setup) (promise : ℕ) (s t : State) (e : ∥ History n promise s 
   pub slotted_to : (harvest : ℕ) → Harvest promise harvest → s.clock < clock_end → t ≡ slot_step n s harvest → ∥ History n promise t ∥₁
   slotted_to harvest law room p =
       subst (λ x. ∥ History n promise x ∥₁) (sym p)
-      (∥∥₁_map e (λ h. slotted s (slot_step n s harvest) None (harvest ∷ [])
-      (done (harvest ∷ []) (slot_step n s harvest) (one_slot n promise s (promises n promise h).0 room) refl
-      (next s harvest [] (slot_step n s harvest) law (over (slot_step n s harvest)))) h))
+      (∥∥₁_map e (λ h. slotted s (slot_step n s harvest) None
+      (done (slot_step n s harvest) (one_slot n promise s (promises n promise h).0 room)
+      (next 0 s harvest (slot_step n s harvest) law (over (slot_step n s harvest)))) h))
 
   pub released_to : (task units draw : ℕ) → t ≡ release_step n s task units draw → ∥ History n promise t ∥₁
   released_to task units draw p = subst (λ x. ∥ History n promise x ∥₁) (sym p) (∥∥₁_map e (λ h. released s task units draw h))

@@ -2,7 +2,7 @@
 --   reached        a history's state is reached
 --   promises       the promise is at least the rate
 --   never_short    so no number of slots is refused for a low promise
-use Rattle.std.proofs.Common.{◌≡◌, ℕ, zero, suc, ◌+◌, ◌≤◌, Bool, true, false, cond, ltb, List, ◌∷◌, length, Some, None, Option, sym, refl, subst, arith}
+use Rattle.std.proofs.Common.{◌≡◌, ℕ, zero, suc, ◌+◌, ◌≤◌, Bool, true, false, cond, ltb, List, Some, None, Option, sym, refl, subst, arith}
 use Rattle.std.proofs.lemmas.Bool.{ltb-false, le-ltb}
 use Rattle.model.specs.declared.refusal.Refusal.{Refusal}
 use Rattle.model.specs.declared.refusal.Refusal.TheVariants.{PromiseTooLow, ClockEnd}
@@ -30,40 +30,36 @@ module _ (n : Setup) (promise : ℕ) where
   within_clock s (suc k) e some =
       ltb-false _ _ (second_fails (ltb promise n.rate) (ltb clock_end (s.clock + suc k)) PromiseTooLow ClockEnd e)
 
-  reached_by_run : {xs : List ℕ} {s t : State} → Run n promise s xs t → (1 ≤ length xs → s.clock + length xs ≤ clock_end) → Reached n promise s →
-      Reached n promise t
+  reached_by_run : {k : ℕ} {s t : State} → Run n promise k s t → (1 ≤ k → s.clock + k ≤ clock_end) → Reached n promise s → Reached n promise t
   reached_by_run (over s) room r = r
-  reached_by_run (next s harvest xs t law rest) room r =
-      let last : s.clock + length (harvest ∷ xs) ≤ clock_end = room (omega arith) in
+  reached_by_run (next k s harvest t law rest) room r =
+      let last : s.clock + suc k ≤ clock_end = room (omega arith) in
       reached_by_run rest (λ _. omega arith) (slot s harvest law (omega arith) r)
 
-  reached_by_slots : {count : ℕ} {s t : State} {o : Option Refusal} {xs : List ℕ} → Slotted n promise count s o xs t → Reached n promise s →
-      Reached n promise t
-  reached_by_slots {count} {s} (done xs t e many run) r =
-      reached_by_run run (λ some. omega (arith, many, within_clock s count e (omega arith))) r
+  reached_by_slots : {count : ℕ} {s t : State} {o : Option Refusal} → Slotted n promise count s o t → Reached n promise s → Reached n promise t
+  reached_by_slots {count} {s} (done t e run) r = reached_by_run run (within_clock s count e) r
   reached_by_slots (denied x e) r = r
 
-  reached_by_order : (s : State) (a : Ask) (o : Option Refusal) (xs : List ℕ) (t : State) → Obeyed n promise s a o xs t → Reached n promise s →
-      Reached n promise t
-  reached_by_order s (Release task units draw) o xs t h r = subst (λ x. Reached n promise x) (sym h.2) (release s task units draw r)
-  reached_by_order s (Slots count) o xs t h r = reached_by_slots h r
+  reached_by_order : (s : State) (a : Ask) (o : Option Refusal) (t : State) → Obeyed n promise s a o t → Reached n promise s → Reached n promise t
+  reached_by_order s (Release task units draw) o t h r = subst (λ x. Reached n promise x) (sym h.1) (release s task units draw r)
+  reached_by_order s (Slots count) o t h r = reached_by_slots h r
 
-  reached_by_orders : {s t : State} {os ps : List Order} {xs : List ℕ} → Driven n promise s os ps xs t → Reached n promise s → Reached n promise t
+  reached_by_orders : {s t : State} {os ps : List Order} → Driven n promise s os ps t → Reached n promise s → Reached n promise t
   reached_by_orders (stop s) r = r
-  reached_by_orders (step s t u o outcome os ps xs later h rest) r = reached_by_orders rest (reached_by_order s o.ask outcome xs t h r)
+  reached_by_orders (step s t u o outcome os ps h rest) r = reached_by_orders rest (reached_by_order s o.ask outcome t h r)
 
   pub reached : (s : State) → History n promise s → Reached n promise s
   reached s (started level law a b) = begun level law a b
   reached s (released x task units draw h) = release x task units draw (reached x h)
-  reached s (slotted x t outcome xs h before) = reached_by_slots h (reached x before)
-  reached s (driven x t os ps xs h before) = reached_by_orders h (reached x before)
+  reached s (slotted x t outcome h before) = reached_by_slots h (reached x before)
+  reached s (driven x t os ps h before) = reached_by_orders h (reached x before)
   reached s (reported x before) = reached x before
 
   pub promises : {s : State} → History n promise s → (n.rate ≤ promise) × (promise ≤ 1000000000)
   promises (started level law a b) = (a, b)
   promises (released x task units draw h) = promises h
-  promises (slotted x t outcome xs h before) = promises before
-  promises (driven x t os ps xs h before) = promises before
+  promises (slotted x t outcome h before) = promises before
+  promises (driven x t os ps h before) = promises before
   promises (reported x before) = promises before
 
   not_for_promise : (b : Bool) → cond b (Some ClockEnd) None ≡ Some PromiseTooLow → ⊥

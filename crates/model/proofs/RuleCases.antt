@@ -3,9 +3,9 @@ use Rattle.std.proofs.Common.{ℕ, zero, suc, ◌<◌, ◌≤◌, [], ◌∷◌,
 use Rattle.model.specs.declared.refusal.Refusal.TheVariants.{NoSuchTask}
 use Rattle.model.specs.Tasks.{Each, Sized, Timed, Payable}
 use Rattle.model.specs.Setups.{gain, LawfulSetup, OneSided}
-use Rattle.model.specs.Orders.{Driven, over, next, done, stop, step}
+use Rattle.model.specs.Amounts.{DrivenBy, over_by, next_by, done_by, stop_by, step_by}
 use Rattle.model.specs.Histories.{fresh}
-use Rattle.model.specs.TableCases.{run_for}
+use Rattle.model.specs.Cases.{run_for}
 use Rattle.model.specs.RuleCases.{three_node, two_node, some_orders, marked_orders, RuleCases}
 
 three_sized : Each Sized three_node.tasks 3
@@ -44,14 +44,14 @@ three_mixed : OneSided three_node → ⊥
 three_mixed side =
     ⊎_elim (λ above. let bad : 10 ≤ 0 = above 1 (lit< tt) in omega arith) (λ below. let bad : 40 ≤ 10 = below 0 (lit< tt) in omega arith) side
 
-three_driven : Driven three_node 10 (fresh 0) some_orders marked_orders (10 ∷ 12 ∷ []) (run_for three_node 12 1 (run_for three_node 10 1 (fresh 0)))
+three_driven : DrivenBy three_node 10 (fresh 0) some_orders marked_orders (10 ∷ 12 ∷ []) (run_for three_node 12 1 (run_for three_node 10 1 (fresh 0)))
 three_driven =
     let s = fresh 0 in
     let t = run_for three_node 10 1 s in
     let u = run_for three_node 12 1 t in
-    let slots = next s 10 (12 ∷ []) u (lit≤ tt, lit≤ tt) (next t 12 [] u (lit≤ tt, lit≤ tt) (over u)) in
-    step s u u _ None _ _ (10 ∷ 12 ∷ []) [] (done (10 ∷ 12 ∷ []) u refl refl slots)
-    (step u u u _ (Some NoSuchTask) _ _ [] [] (refl, refl, refl) (step u u u _ None _ _ [] [] (done [] u refl refl (over u)) (stop u)))
+    let slots = next_by s 10 (12 ∷ []) u (lit≤ tt, lit≤ tt) (next_by t 12 [] u (lit≤ tt, lit≤ tt) (over_by u)) in
+    step_by s u u _ None _ _ (10 ∷ 12 ∷ []) [] (done_by (10 ∷ 12 ∷ []) u refl refl slots)
+    (step_by u u u _ (Some NoSuchTask) _ _ [] [] (refl, refl, refl) (step_by u u u _ None _ _ [] [] (done_by [] u refl refl (over_by u)) (stop_by u)))
 
 pub rule_cases : RuleCases
 rule_cases = record {

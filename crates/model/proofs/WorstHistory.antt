@@ -1,12 +1,12 @@
 -- The run that shows a task's longest response is a history of its table: its clock goes up by one, and nothing of it is refused but early releases.
-use Rattle.std.proofs.Common.{◌≡◌, ℕ, zero, suc, ◌+◌, ◌<◌, ◌≤◌, ltb, [], ◌∷◌, get_or, None, refl, ◌∙◌, le_refl, arith}
+use Rattle.std.proofs.Common.{◌≡◌, ℕ, zero, suc, ◌+◌, ◌<◌, ◌≤◌, ltb, get_or, None, refl, ◌∙◌, le_refl, arith}
 use Rattle.std.proofs.lemmas.Bool.{le-ltb, cond-false}
 use Rattle.model.specs.declared.state.State.{State}
 use Rattle.model.specs.Tasks.{no_task}
 use Rattle.model.specs.Setups.{Setup, gain, LawfulSetup}
 use Rattle.model.specs.Slots.{slot_step}
 use Rattle.model.specs.Releases.{clock_end}
-use Rattle.model.specs.Orders.{slots_refusal, over, next, done}
+use Rattle.model.specs.Orders.{slots_refusal, Run, over, next, done}
 use Rattle.model.specs.Histories.{History, started, released, slotted}
 use Rattle.model.specs.Worst.{full_releases, worst_run}
 use Rattle.model.proofs.Rule.{Rule}
@@ -35,8 +35,8 @@ module _ (n : Setup) (lawful : LawfulSetup n) (rule : (s : State) (h : ℕ) → 
   pub one_slot_is_history : (s : State) → s.clock < clock_end → History n n.rate s → History n n.rate (slot_step n s n.rate)
   one_slot_is_history s before h =
       let after = slot_step n s n.rate in
-      let ran = next s n.rate [] after (le_refl n.rate, lawful.rated.1) (over after) in
-      slotted s after None (n.rate ∷ []) (done (n.rate ∷ []) after (one_slot_not_refused s before) refl ran) h
+      let ran : Run n n.rate 1 s after = next 0 s n.rate after (le_refl n.rate, lawful.rated.1) (over after) in
+      slotted s after None (done after (one_slot_not_refused s before) ran) h
 
   pub worst_is_history : (index clock : ℕ) → clock ≤ clock_end → History n n.rate (worst_run n index clock)
   worst_is_history index zero h = started n.floor (le_refl n.floor, lawful.stored.0) (le_refl n.rate) lawful.rated.1

@@ -25,8 +25,6 @@ fresh level = record {
 pub data History (n : Setup) (promise : ℕ) : State → Type 0 where
   started : (level : ℕ) → LawfulLevel n level → n.rate ≤ promise → promise ≤ 1000000000 → History n promise (fresh level)
   released : (s : State) (task units draw : ℕ) → History n promise s → History n promise (release_step n s task units draw)
-  slotted : (s t : State) (outcome : Option Refusal) (amounts : List ℕ) → Slotted n promise 1 s outcome amounts t → History n promise s →
-      History n promise t
-  driven : (s t : State) (before after : List Order) (amounts : List ℕ) → Driven n promise s before after amounts t → History n promise s →
-      History n promise t
+  slotted : (s t : State) (outcome : Option Refusal) → Slotted n promise 1 s outcome t → History n promise s → History n promise t
+  driven : (s t : State) (before after : List Order) → Driven n promise s before after t → History n promise s → History n promise t
   reported : (s : State) → History n promise s → History n promise s

@@ -2,8 +2,6 @@ pub mod Tasks
 pub mod Demand
 pub mod Windows
 pub mod Laws
-pub mod TableCases
-pub mod RuleCases
 pub mod Cases
 pub mod Refusals
 pub mod Setups
@@ -11,8 +9,10 @@ pub mod Energy
 pub mod Slots
 pub mod Releases
 pub mod Orders
+pub mod Amounts
 pub mod Histories
 pub mod OnTime
 pub mod Worst
 pub mod HistoryLaws
 pub mod ScopeLaws
+pub mod RuleCases

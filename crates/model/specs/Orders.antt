@@ -1,9 +1,9 @@
 -- Slots by number, orders with their marks, and the report.
 --   slots_refusal   why a number of slots is refused
---   Run             slots in turn, one for each amount of a list; the harvester may bring each of them
---   Slotted         slots by number with their outcome, done or refused, and the amounts that they brought
---   Driven          a list of orders, each done in turn and marked, and the amounts that all their slots brought
-use Rattle.std.specs.Prelude.{◌≡◌, ℕ, zero, suc, ◌+◌, cond, List, [], ◌∷◌, ◌++◌, length, Some, None, Option, nat_lt}
+--   Run             a number of slots, each with an amount that the harvester may bring
+--   Slotted         slots by number with their outcome, done or refused
+--   Driven          a list of orders, each done in turn and marked
+use Rattle.std.specs.Prelude.{◌≡◌, ℕ, zero, suc, ◌+◌, cond, List, [], ◌∷◌, Some, None, Option, nat_lt}
 use Rattle.model.specs.declared.refusal.Refusal.{Refusal}
 use Rattle.model.specs.declared.refusal.Refusal.TheVariants.{PromiseTooLow, ClockEnd}
 use Rattle.model.specs.declared.order.Ask.{Ask}
@@ -23,31 +23,28 @@ slots_refusal n promise s zero = None
 slots_refusal n promise s (suc k) =
     cond (nat_lt promise n.rate) (Some PromiseTooLow) (cond (nat_lt clock_end (s.clock + suc k)) (Some ClockEnd) None)
 
-pub data Run (n : Setup) (promise : ℕ) : State → List ℕ → State → Type 0 where
-  over : (s : State) → Run n promise s [] s
-  next : (s : State) (harvest : ℕ) (amounts : List ℕ) (t : State) → Harvest promise harvest →
-      Run n promise (slot_step n s harvest) amounts t → Run n promise s (harvest ∷ amounts) t
+pub data Run (n : Setup) (promise : ℕ) : ℕ → State → State → Type 0 where
+  over : (s : State) → Run n promise 0 s s
+  next : (k : ℕ) (s : State) (harvest : ℕ) (t : State) → Harvest promise harvest → Run n promise k (slot_step n s harvest) t →
+      Run n promise (suc k) s t
 
-pub data Slotted (n : Setup) (promise count : ℕ) (s : State) : Option Refusal → List ℕ → State → Type 0 where
-  done : (amounts : List ℕ) (t : State) → slots_refusal n promise s count ≡ None → length amounts ≡ count → Run n promise s amounts t →
-      Slotted n promise count s None amounts t
-  denied : (r : Refusal) → slots_refusal n promise s count ≡ Some r → Slotted n promise count s (Some r) [] s
+pub data Slotted (n : Setup) (promise count : ℕ) (s : State) : Option Refusal → State → Type 0 where
+  done : (t : State) → slots_refusal n promise s count ≡ None → Run n promise count s t → Slotted n promise count s None t
+  denied : (r : Refusal) → slots_refusal n promise s count ≡ Some r → Slotted n promise count s (Some r) s
 
--- what one order does: its outcome, the amounts that its slots brought, and the state after it
-abbrev pub Obeyed : Setup → ℕ → State → Ask → Option Refusal → List ℕ → State → Type 0
-Obeyed n promise s (Release task units draw) o amounts t =
-    (o ≡ release_refusal n s task units draw) × (amounts ≡ []) × (t ≡ release_step n s task units draw)
-Obeyed n promise s (Slots count) o amounts t = Slotted n promise count s o amounts t
+-- what one order does: its outcome, and the state after it
+abbrev pub Obeyed : Setup → ℕ → State → Ask → Option Refusal → State → Type 0
+Obeyed n promise s (Release task units draw) o t = (o ≡ release_refusal n s task units draw) × (t ≡ release_step n s task units draw)
+Obeyed n promise s (Slots count) o t = Slotted n promise count s o t
 
 abbrev pub marked : Order → ℕ → Order
 marked o m = record { ask = o.ask; mark = m }
 
--- the orders as they were, the orders as they are marked, the amounts in turn, and the state after them
-pub data Driven (n : Setup) (promise : ℕ) : State → List Order → List Order → List ℕ → State → Type 0 where
-  stop : (s : State) → Driven n promise s [] [] [] s
-  step : (s t u : State) (o : Order) (outcome : Option Refusal) (os ps : List Order) (amounts later : List ℕ) →
-      Obeyed n promise s o.ask outcome amounts t → Driven n promise t os ps later u →
-      Driven n promise s (o ∷ os) (marked o (mark_of outcome) ∷ ps) (amounts ++ later) u
+-- the orders as they were, the orders as they are marked, and the state after them
+pub data Driven (n : Setup) (promise : ℕ) : State → List Order → List Order → State → Type 0 where
+  stop : (s : State) → Driven n promise s [] [] s
+  step : (s t u : State) (o : Order) (outcome : Option Refusal) (os ps : List Order) → Obeyed n promise s o.ask outcome t →
+      Driven n promise t os ps u → Driven n promise s (o ∷ os) (marked o (mark_of outcome) ∷ ps) u
 
 abbrev pub report_of : State → Report
 report_of s = record {

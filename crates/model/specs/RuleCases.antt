@@ -16,9 +16,10 @@ use Rattle.model.specs.declared.slot.Activity.TheVariants.{Waited, Ran}
 use Rattle.model.specs.Setups.{Setup, LawfulSetup, OneSided}
 use Rattle.model.specs.Slots.{slot_answer}
 use Rattle.model.specs.Releases.{release_refusal, release_step}
-use Rattle.model.specs.Orders.{slots_refusal, Driven, report_of}
+use Rattle.model.specs.Orders.{slots_refusal, report_of}
+use Rattle.model.specs.Amounts.{DrivenBy}
 use Rattle.model.specs.Histories.{fresh}
-use Rattle.model.specs.TableCases.{three_tasks, two_tasks, case_node, run_for, together}
+use Rattle.model.specs.Cases.{three_tasks, two_tasks, case_node, run_for, together}
 
 abbrev pub three_node : Setup
 three_node = case_node (three_tasks 21)
@@ -102,4 +103,4 @@ pub record RuleCases : Type 0 where
       ((slot_answer three_node acq_again 10).activity ≡ Ran 1 (Finished 1)) ×
       (slice_index_or (report_of (run_for three_node 10 1 acq_again)).longest 0 None ≡ Some 4)
   -- a refused order leaves the orders behind it to be done
-  pub orders : Driven three_node 10 (fresh 0) some_orders marked_orders (10 ∷ 12 ∷ []) (run_for three_node 12 1 (run_for three_node 10 1 (fresh 0)))
+  pub orders : DrivenBy three_node 10 (fresh 0) some_orders marked_orders (10 ∷ 12 ∷ []) (run_for three_node 12 1 (run_for three_node 10 1 (fresh 0)))

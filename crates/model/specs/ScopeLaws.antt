@@ -8,7 +8,8 @@ use Rattle.model.specs.declared.state.State.{State}
 use Rattle.model.specs.Setups.{Setup, LawfulSetup}
 use Rattle.model.specs.Energy.{LawfulLevel}
 use Rattle.model.specs.Releases.{clock_end}
-use Rattle.model.specs.Orders.{slots_refusal, Driven}
+use Rattle.model.specs.Orders.{slots_refusal}
+use Rattle.model.specs.Amounts.{DrivenBy}
 use Rattle.model.specs.Histories.{fresh, History}
 use Rattle.model.specs.HistoryLaws.{InEveryHistory}
 
@@ -27,4 +28,4 @@ RoomForTasks = InEveryHistory (λ n promise s. (length n.tasks ≤ length s.line
 -- the orders, and the amounts that their slots brought, settle the marks and the state
 abbrev pub OneDrive : Type 0
 OneDrive = (n : Setup) (promise : ℕ) (s t u : State) (os ps qs : List Order) (amounts : List ℕ) →
-    Driven n promise s os ps amounts t → Driven n promise s os qs amounts u → (ps ≡ qs) × (t ≡ u)
+    DrivenBy n promise s os ps amounts t → DrivenBy n promise s os qs amounts u → (ps ≡ qs) × (t ≡ u)

@@ -8,10 +8,10 @@ use Rattle.analysis.proofs.assess.assess.Goals as goal
 pub returns : goal.returns
 returns c =
     let t = c.args.table.now in
-    let v = c.assess-tasks.result in
+    let v = c.assess_tasks.result in
     let said : VerdictOf t.rate (task_list t) v =
     subst (λ r. VerdictOf r (task_list t) v) c.rate.ensures.value
-    (subst (λ ts. VerdictOf c.rate.result ts v) c.tasks.ensures.value c.assess-tasks.ensures) in
+    (subst (λ ts. VerdictOf c.rate.result ts v) c.tasks.ensures.value c.assess_tasks.ensures) in
     let never = accepted_never_late (setup_of t) (setup_lawful t) in
     record {
       verdict = said;

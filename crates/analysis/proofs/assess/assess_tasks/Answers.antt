@@ -27,15 +27,15 @@ pub loop-index-preserved : goal.loop-index-preserved
 loop-index-preserved c =
     let ts = c.args.tasks.now in
     let i = c.loop-index.index in
-    let found = c.task-bounds-found.result in
-    let of : BoundsOf c.args.rate ts i found = c.task-bounds-found.ensures in
+    let found = c.task_bounds-found.result in
+    let of : BoundsOf c.args.rate ts i found = c.task_bounds-found.ensures in
     let room : i < length c.loop-index.bounds = omega (arith, c.loop-index.invariant.0, c.requires.1.few) in (
       length-set c.loop-index.bounds i found ∙ c.loop-index.invariant.0,
       bounds-more c.args.rate ts i c.loop-index.bounds found room c.loop-index.invariant.1 of,
       λ k h. let ne : k ≢ i = omega arith in get_or-set_other c.loop-index.bounds i k found no_bounds ne ∙ c.loop-index.invariant.2 k (omega arith),
-      decides-below-more (λ k. (window : ℕ) × Fits c.args.rate ts k window) i c.loop-index.accepted c.is-some-accepted.result
+      decides-below-more (λ k. (window : ℕ) × Fits c.args.rate ts k window) i c.loop-index.accepted c.is_some-accepted.result
           c.loop-index.invariant.3
-          (Decides-at c.is-some-accepted.result (is_some found.safe.window) c.is-some-accepted.ensures
+          (Decides-at c.is_some-accepted.result (is_some found.safe.window) c.is_some-accepted.ensures
           (presence_decides c.args.rate ts i found.safe.window of.safe.0)),
     )
 

@@ -4,13 +4,13 @@ use Rattle.model.specs.Demand.{job_count, safe_weight}
 use Rattle.analysis.proofs.Sums.{urgent_below, urgent_is, urgent_lawful, own_lawful, own_small, jobs_small, slots_small, turn_adds, own_adds, slot_turn_adds, slot_own_adds}
 use Rattle.analysis.proofs.curve.demand.Goals as goal
 
-pub overflow-add-jobs : goal.overflow-add-jobs
-overflow-add-jobs c =
+pub overflow_add-jobs : goal.overflow_add-jobs
+overflow_add-jobs c =
     let law = urgent_lawful c.args.subject.now c.loop-task.task-index c.loop-task-test.true in
     omega (arith, law, c.requires)
 
-pub nonzero-div-jobs : goal.nonzero-div-jobs
-nonzero-div-jobs c =
+pub nonzero_div-jobs : goal.nonzero_div-jobs
+nonzero_div-jobs c =
     let law = urgent_lawful c.args.subject.now c.loop-task.task-index c.loop-task-test.true in
     omega (arith, law)
 
@@ -25,14 +25,14 @@ turn_small : (c : goal.After-max-unit) → (let t = get_or (take c.args.subject.
     job_count t c.args.window * (t.units * c.max-unit.result) ≤ 400000000000000000)
 turn_small c = jobs_small _ c.args.window c.max-unit.result (turn-law c) c.requires.1 (turn-unit c)
 
-pub overflow-mul-energy : goal.overflow-mul-energy
-overflow-mul-energy c = omega (arith, own_small _ c.max-unit.result (turn-law c) (turn-unit c))
+pub overflow_mul-energy : goal.overflow_mul-energy
+overflow_mul-energy c = omega (arith, own_small _ c.max-unit.result (turn-law c) (turn-unit c))
 
-pub overflow-mul-energy-in-loop-task : goal.overflow-mul-energy-in-loop-task
-overflow-mul-energy-in-loop-task c = omega (arith, turn_small c)
+pub overflow_mul-energy-in-loop-task : goal.overflow_mul-energy-in-loop-task
+overflow_mul-energy-in-loop-task c = omega (arith, turn_small c)
 
-pub overflow-add-energy : goal.overflow-add-energy
-overflow-add-energy c =
+pub overflow_add-energy : goal.overflow_add-energy
+overflow_add-energy c =
     let below = urgent_below c.args.subject.now.tasks.now c.args.subject.now.index c.loop-task.task-index c.loop-task-test.true in
     omega (arith, turn_small c, c.loop-task.invariant.3, c.args.subject.now.within.1)
 
@@ -65,8 +65,8 @@ own-sum-small c =
     let few = length-take c.args.subject.now.index c.args.subject.now.tasks.now in
     omega (arith, c.loop-task.invariant.3, c.args.subject.now.within.1, c.loop-task.auto.task-index-end)
 
-pub overflow-add-result-2 : goal.overflow-add-result-2
-overflow-add-result-2 c = omega (arith, own-sum-small c)
+pub overflow_add-result-2 : goal.overflow_add-result-2
+overflow_add-result-2 c = omega (arith, own-sum-small c)
 
 pub returns : goal.returns
 returns c =

@@ -4,7 +4,7 @@ use Rattle.model.specs.declared.task.Task.{Task}
 use Rattle.model.specs.Demand.{time_curve, greater_curve, safe_curve}
 use Rattle.model.specs.Windows.{found, above, again, Accepted}
 use Rattle.model.specs.Laws.{TimeBound, GreaterBound, SafeBound, SafeSearch, window_limit}
-use Rattle.model.specs.TableCases.{case_rate, three_tasks, two_tasks, pair_tasks}
+use Rattle.model.specs.Cases.{case_rate, three_tasks, two_tasks, pair_tasks}
 use Rattle.model.proofs.Searches.{present_fits, absent_fits_none}
 use Rattle.model.proofs.Computed.{is_least, is_least_tells}
 use Rattle.model.proofs.RuleCases.{rule_cases}
@@ -63,23 +63,25 @@ two-accepted (suc (suc k)) h = absurd (omega arith)
 
 pub returns : goal.returns
 returns c = record {
-  safe_bounds = (acq-safe, log-safe, tx-safe);
-  safe_rounds = (acq-rounds, log-rounds, tx-rounds);
-  time_bounds = (in_time (three_tasks 21) 0 (Some 1) refl, in_time (three_tasks 21) 1 (Some 4) refl, in_time (three_tasks 21) 2 (Some 5) refl);
-  greater_bounds = (greater (three_tasks 21) 0 (Some 4) refl, greater (three_tasks 21) 1 (Some 4) refl, greater (three_tasks 21) 2 (Some 7) refl);
-  accepted = three-accepted;
-  early_bound = safe (three_tasks 20) 2 None refl;
-  early_rounds = early_rounds;
-  early_refused = refused (three_tasks 20) 2 (safe (three_tasks 20) 2 None refl) (lit< tt);
-  two_bound = safe (two_tasks 21) 1 (Some 7) refl;
-  two_accepted_at_7 = two-accepted;
-  two_refused_at_6 = refused (two_tasks 6) 1 (safe (two_tasks 6) 1 None refl) (lit< tt);
-  acq_slots = (refl, refl, refl, refl);
-  log_slots = (refl, refl, refl);
-  together_slots = (refl, refl, refl);
-  apart_slots = (refl, refl, refl, refl);
-  costly_bound = safe pair_tasks 1 (Some 4) refl;
-  levels = (refl, refl);
-  half_let_through = refl;
+  worked = record {
+    safe_bounds = (acq-safe, log-safe, tx-safe);
+    safe_rounds = (acq-rounds, log-rounds, tx-rounds);
+    time_bounds = (in_time (three_tasks 21) 0 (Some 1) refl, in_time (three_tasks 21) 1 (Some 4) refl, in_time (three_tasks 21) 2 (Some 5) refl);
+    greater_bounds = (greater (three_tasks 21) 0 (Some 4) refl, greater (three_tasks 21) 1 (Some 4) refl, greater (three_tasks 21) 2 (Some 7) refl);
+    accepted = three-accepted;
+    early_bound = safe (three_tasks 20) 2 None refl;
+    early_rounds = early_rounds;
+    early_refused = refused (three_tasks 20) 2 (safe (three_tasks 20) 2 None refl) (lit< tt);
+    two_bound = safe (two_tasks 21) 1 (Some 7) refl;
+    two_accepted_at_7 = two-accepted;
+    two_refused_at_6 = refused (two_tasks 6) 1 (safe (two_tasks 6) 1 None refl) (lit< tt);
+    acq_slots = (refl, refl, refl, refl);
+    log_slots = (refl, refl, refl);
+    together_slots = (refl, refl, refl);
+    apart_slots = (refl, refl, refl, refl);
+    costly_bound = safe pair_tasks 1 (Some 4) refl;
+    levels = (refl, refl);
+    half_let_through = refl;
+  };
   rule = rule_cases;
 }
