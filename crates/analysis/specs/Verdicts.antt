@@ -3,6 +3,7 @@
 --   BoundsOf    the three bounds of the task at an index
 --   AllBounds   the bounds of every task
 --   VerdictOf   what a verdict says: all bounds, and whether the tasks are accepted
+--   NoBoundsBehind   a place without a task holds no bound
 use Rattle.std.specs.Prelude.{◌≡◌, ℕ, ◌<◌, ◌≤◌, List, length, take, None, Decides, slice_index_or}
 use Rattle.model.specs.declared.task.Task.{Task}
 use Rattle.model.specs.Tasks.{no_task}
@@ -39,6 +40,7 @@ bounds_list v = take v.count v.bounds
 pub record VerdictOf (gain : ℕ) (ts : List Task) (v : Verdict) : Type 0 where
   pub count : v.count ≡ length ts
   pub bounds : AllBounds gain ts (bounds_list v)
-  -- a place without a task holds no bound
-  pub rest : (k : ℕ) → length ts ≤ k → slice_index_or v.bounds k no_bounds ≡ no_bounds
   pub accepted : Decides v.accepted (Accepted gain ts)
+
+abbrev pub NoBoundsBehind : List Task → Verdict → Type 0
+NoBoundsBehind ts v = (k : ℕ) → length ts ≤ k → slice_index_or v.bounds k no_bounds ≡ no_bounds

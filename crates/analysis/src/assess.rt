@@ -4,7 +4,7 @@ ghost use Rattle.model.specs.Tasks.{LawfulRate, LawfulTasks};
 ghost use Rattle.model.specs.OnTime.{MeetsDeadlines};
 ghost use Rattle.model.specs.Setups.{OneSided};
 ghost use Rattle.table.specs.Tables.{task_list, setup_of};
-ghost use Rattle.analysis.specs.Verdicts.{BoundsOf, VerdictOf};
+ghost use Rattle.analysis.specs.Verdicts.{BoundsOf, VerdictOf, NoBoundsBehind};
 
 use crate::curve::{GreaterCurve, SafeCurve, Subject, TimeCurve};
 use crate::search::search;
@@ -33,7 +33,8 @@ fn task_bounds(rate: u32, tasks: &[Task], index: usize) -> TaskBounds
 // The tasks are accepted if each of them has a safe bound.
 fn assess_tasks(rate: u32, tasks: &[Task]) -> Verdict
     requires { (LawfulRate rate) × (LawfulTasks 8000000000 tasks.now) }
-    ensures { VerdictOf rate tasks.now result }
+    ensures verdict { VerdictOf rate tasks.now result }
+    ensures rest { NoBoundsBehind tasks.now result }
 {
     let none = Bound {
         window: None,
@@ -61,6 +62,7 @@ fn assess_tasks(rate: u32, tasks: &[Task]) -> Verdict
 // is accepted exactly if it never is.
 pub fn assess(table: &Table) -> Verdict
     ensures verdict { VerdictOf table.now.rate (task_list table.now) result }
+    ensures rest { NoBoundsBehind (task_list table.now) result }
     ensures on_time { result.accepted ≡ true → MeetsDeadlines (setup_of table.now) }
     ensures exact { OneSided (setup_of table.now) → Decides result.accepted (MeetsDeadlines (setup_of table.now)) }
 {

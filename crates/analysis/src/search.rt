@@ -18,8 +18,8 @@ pub(crate) trait Curve {
 // From window 1 on, each value of the curve is the next window, until the curve holds or the deadline is passed.
 pub(crate) fn search<C: Curve>(curve: &C, deadline: u32) -> Bound
     requires { (1 ≤ deadline) × (deadline ≤ 100000) }
-    ensures least { LeastWindow (value curve.now) deadline result.window }
-    ensures rounds { Rounds (value curve.now) deadline 1 result.window result.rounds }
+    ensures least { LeastWindow (C.Curve.value curve.now) deadline result.window }
+    ensures rounds { Rounds (C.Curve.value curve.now) deadline 1 result.window result.rounds }
     ensures few { result.rounds ≤ deadline }
 {
     let mut window = 1u32;

@@ -39,8 +39,8 @@ loop-index-preserved c =
           (presence_decides c.args.rate ts i found.safe.window of.safe.0)),
     )
 
-pub returns : goal.returns
-returns c =
+pub returns-clause-verdict : goal.returns-clause-verdict
+returns-clause-verdict c =
     let ts = c.args.tasks.now in
     let bs = c.loop-index.bounds in
     let all : c.loop-index.index ≡ length ts = omega arith in
@@ -50,8 +50,10 @@ returns c =
         count = omega (arith, length-take (length ts) bs, c.loop-index.invariant.0, c.requires.1.few);
         each = λ k h. subst (BoundsOf c.args.rate ts k) (sym (get_or-take (length ts) bs k no_bounds h)) (c.loop-index.invariant.1 k (omega arith));
       };
-      rest = λ k h. c.loop-index.invariant.2 k (omega arith);
       accepted =
           let Below : ℕ → Type 0 = λ n. (k : ℕ) → k < n → (window : ℕ) × Fits c.args.rate ts k window in
           subst (λ n. Decides c.loop-index.accepted (Below n)) all c.loop-index.invariant.3;
     }
+
+pub returns-clause-rest : goal.returns-clause-rest
+returns-clause-rest c = λ k h. c.loop-index.invariant.2 k (omega arith)
