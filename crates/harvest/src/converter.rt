@@ -3,6 +3,7 @@ ghost use Rattle.std.specs.Prelude.{◌≡◌, ◌≤◌, min};
 ghost use Rattle.model.specs.Energy.{scaled};
 
 use crate::harvester::Harvester;
+use crate::steady::Steady;
 
 // Lets a number of 256ths through, rounded down.
 #[derive(Drop)]
@@ -46,4 +47,11 @@ fn scale(amount: u32, factor: u16) -> u32
     ensures { result ≡ scaled amount factor }
 {
     (amount as u64 * factor as u64 / 256) as u32
+}
+
+// Half of a steady 15 is 7.
+pub fn half_of_fifteen() -> u32
+    ensures { result ≡ 7 }
+{
+    Converter::new(Steady::new(15), 128).take()
 }

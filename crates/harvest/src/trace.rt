@@ -1,5 +1,6 @@
 // Recorded samples, in turn and over again.
 ghost use Rattle.std.specs.Prelude.{◌≡◌, ◌-◌, ◌≤◌, length};
+ghost use Rattle.model.specs.Energy.{Harvest};
 ghost use Rattle.harvest.specs.Samples.{least, sample, next_index};
 
 use crate::harvester::{CEILING, Harvester};
@@ -52,7 +53,15 @@ impl Harvester for Trace<'_> {
         self.low
     }
 
-    fn take(&mut self) -> u32 {
+    fn take(&mut self) -> u32
+        ensures amount { result ≡ sample self.old.samples.now self.old.index }
+        ensures once { (self.new.samples.now ≡ self.old.samples.now) × (self.new.index ≡ next_index self.old.samples.now self.old.index) }
+        ensures same { least self.new.samples.now ≡ least self.old.samples.now }
+        ensures law { Harvest (least self.old.samples.now) (sample self.old.samples.now self.old.index) }
+        ensures after { Harvest (least self.new.samples.now) (sample self.new.samples.now self.new.index) }
+        ensures samples { self.new.samples.now ≡ self.old.samples.now }
+        ensures next { self.new.index ≡ next_index self.old.samples.now self.old.index }
+    {
         let count = self.samples.len();
         if count == 0 {
             return 0;
@@ -62,4 +71,15 @@ impl Harvester for Trace<'_> {
         self.index = if at + 1 < count { at + 1 } else { 0 };
         amount
     }
+}
+
+// After the last of two samples comes the first again.
+pub fn first_again() -> u32
+    ensures { result ≡ 5 }
+{
+    let samples = [5, 9];
+    let mut trace = Trace::new(&samples);
+    let _ = trace.take();
+    let _ = trace.take();
+    trace.take()
 }

@@ -12,7 +12,7 @@ returns-then-count-eq0 c =
     let none = no_samples xs i (omega arith) in
     let first : i ≡ 0 = omega (arith, c.args.self.now.inside) in
     let law = least_law xs i c.args.self.now.inside in
-    record { amount = sym none.0; once = (refl, first ∙ sym none.1); same = refl; law = law; after = law }
+    record { amount = sym none.0; once = (refl, first ∙ sym none.1); same = refl; law = law; after = law; samples = refl; next = first ∙ sym none.1 }
 
 pub returns : goal.returns
 returns c =
@@ -29,4 +29,6 @@ returns c =
       same = search rules;
       law = least_law xs i c.args.self.now.inside;
       after = least_law xs _ (subst (λ k. k ≤ length xs - 1) (sym next) (next_inside xs i));
+      samples = search rules;
+      next = next;
     }
