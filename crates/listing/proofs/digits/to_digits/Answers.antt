@@ -31,8 +31,8 @@ loop-rest-init c =
     let h : c.args.n < 2 ^ 64 = search rules in
     (sym (append-nil (decimal c.args.n)), length-decimal-le 20 c.args.n (omega arith) (omega arith) h, omega arith, refl, h)
 
-pub overflow-sub-start : goal.overflow-sub-start
-overflow-sub-start c = omega (arith, decimal_nonempty c.loop-rest.rest c.loop-rest.invariant.4, c.loop-rest.invariant.1)
+pub overflow_sub-start : goal.overflow_sub-start
+overflow_sub-start c = omega (arith, decimal_nonempty c.loop-rest.rest c.loop-rest.invariant.4, c.loop-rest.invariant.1)
 
 pub loop-rest-smaller : goal.loop-rest-smaller
 loop-rest-smaller c = omega (arith, decimal_nonempty c.loop-rest.rest c.loop-rest.invariant.4, c.loop-rest.invariant.1)
@@ -55,8 +55,8 @@ loop-rest-preserved c =
       omega (arith, fit),
     )
 
-pub overflow-sub-start-2 : goal.overflow-sub-start-2
-overflow-sub-start-2 c = omega (arith, decimal_nonempty c.loop-rest.rest c.loop-rest.invariant.4, c.loop-rest.invariant.1)
+pub overflow_sub-start-2 : goal.overflow_sub-start-2
+overflow_sub-start-2 c = omega (arith, decimal_nonempty c.loop-rest.rest c.loop-rest.invariant.4, c.loop-rest.invariant.1)
 
 pub returns : goal.returns
 returns c =

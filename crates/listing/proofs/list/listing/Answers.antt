@@ -9,9 +9,9 @@ pub returns-in-Some : goal.returns-in-Some
 returns-in-Some c =
     let out = c.in-Some.ensures in
     let fits : FitsIn c.args.file.now c.args.output.now
-    (record { length = c.in-Some.length; accepted = c.put-listing-accepted.result }) c.copy-out.new.output = record {
-      text = written c.put-listing-accepted.new.text;
-      told = c.put-listing-accepted.ensures;
+    (record { length = c.in-Some.length; accepted = c.put_listing-accepted.result }) c.copy_out.new.output = record {
+      text = written c.put_listing-accepted.new.text;
+      told = c.put_listing-accepted.ensures;
       sized = out.0;
       held = out.2;
       room = omega (arith, out.0, out.1);
@@ -21,11 +21,11 @@ returns-in-Some c =
 pub returns-in-None : goal.returns-in-None
 returns-in-None c =
     let out = c.in-None.ensures in
-    let long : TooLong c.args.file.now c.args.output.now OutputTooShort c.copy-out.new.output = record {
+    let long : TooLong c.args.file.now c.args.output.now OutputTooShort c.copy_out.new.output = record {
       reason = refl;
-      text = written c.put-listing-accepted.new.text;
-      accepted = c.put-listing-accepted.result;
-      told = c.put-listing-accepted.ensures;
+      text = written c.put_listing-accepted.new.text;
+      accepted = c.put_listing-accepted.result;
+      told = c.put_listing-accepted.ensures;
       short = out.0;
       kept = out.1;
     } in

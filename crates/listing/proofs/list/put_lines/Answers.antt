@@ -7,16 +7,16 @@ use Rattle.listing.specs.Listings.{task_line, lines_text}
 use Rattle.listing.specs.Texts.{written}
 use Rattle.listing.proofs.Rows.{lines_none, line_more, bounds_small, few_tasks}
 use Rattle.listing.proofs.list.put_lines.Goals as goal
-use Rattle.listing.proofs.list.put_lines.Goals.{in-Some, in-default}
+use Rattle.listing.proofs.list.put_lines.Goals.{in-Some, in_default}
 
-pub offset-bounds-verdict-index : goal.offset-bounds-verdict-index
-offset-bounds-verdict-index c = let few = few_tasks c.args.table.now _ c.requires.bounds.count in omega arith
+pub offset_bounds-verdict-index : goal.offset_bounds-verdict-index
+offset_bounds-verdict-index c = let few = few_tasks c.args.table.now _ c.requires.bounds.count in omega arith
 
 pub bounds-verdict-index : goal.bounds-verdict-index
 bounds-verdict-index c = let few = few_tasks c.args.table.now _ c.requires.bounds.count in omega arith
 
-pub put-line-requires : goal.put-line-requires
-put-line-requires c =
+pub put_line-requires : goal.put_line-requires
+put_line-requires c =
     let t = c.args.table.now in
     let v = c.args.verdict.now in
     let i = c.loop-index.index in
@@ -28,7 +28,7 @@ put-line-requires c =
     let within : i < length (task_list t) = omega (arith, c.requires.bounds.count) in
     let small = bounds_small _ (task_list t) i _ sized timed (subst (BoundsOf t.rate (task_list t) i) (get_or-take v.count v.bounds i no_bounds c.loop-index-test.true) (c.requires.bounds.bounds.each i within)) in
     let told = c.in-Some.ensures in
-    let short : length c.as-bytes.result.now ≤ 12 = subst (λ b. length b ≤ 12) (sym c.as-bytes.ensures) told.2.1 in
+    let short : length c.as_bytes.result.now ≤ 12 = subst (λ b. length b ≤ 12) (sym c.as_bytes.ensures) told.2.1 in
     record {
       short = short;
       limits = search rules;
@@ -45,15 +45,15 @@ loop-index-preserved c =
     let b : get_or v.bounds i no_bounds ≡ get_or (bounds_list v) i no_bounds = sym (get_or-take v.count v.bounds i no_bounds c.loop-index-test.true) in
     elim c.match-name.branch [
       | in-Some w ↦
-          let name = w.as-bytes.result.now in
+          let name = w.as_bytes.result.now in
           let told = w.in-Some.ensures in
-          let e = line_more (name_list t) (bounds_list v) i (written c.loop-index.text) name (get_or v.bounds i no_bounds) told.0 inb (w.as-bytes.ensures ∙ told.1) b in
+          let e = line_more (name_list t) (bounds_list v) i (written c.loop-index.text) name (get_or v.bounds i no_bounds) told.0 inb (w.as_bytes.ensures ∙ told.1) b in
           let put : written c.match-name.text ≡ written c.loop-index.text ++ task_line name (get_or v.bounds i no_bounds) =
-          ap written w.text-is ∙ w.put-line.ensures.text in (
+          ap written w.text-is ∙ w.put_line.ensures.text in (
             ap (λ x. x ++ lines_text (drop (i + 1) (name_list t)) (drop (i + 1) (bounds_list v))) put ∙ (sym e ∙ c.loop-index.invariant.0),
-            omega (arith, ap (λ x. x.len) w.text-is, w.put-line.ensures.len, c.loop-index.invariant.1),
+            omega (arith, ap (λ x. x.len) w.text-is, w.put_line.ensures.len, c.loop-index.invariant.1),
           )
-      | in-default w ↦ absurd (omega (arith, w.in-default.ensures, c.requires.bounds.count))
+      | in_default w ↦ absurd (omega (arith, w.in_default.ensures, c.requires.bounds.count))
     ]
 
 pub returns : goal.returns

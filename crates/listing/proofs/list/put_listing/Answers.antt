@@ -8,7 +8,7 @@ pub returns-in-Err : goal.returns-in-Err
 returns-in-Err c =
     let f = c.in-Err.fault in
     let told = c.in-Err.ensures in
-    let empty : written c.put-table.new.text ≡ [] = ap written told.1 ∙ ap (λ n. take n c.args.text.now.bytes) c.requires in
-    let text = c.put-refused.ensures.text
+    let empty : written c.put_table.new.text ≡ [] = ap written told.1 ∙ ap (λ n. take n c.args.text.now.bytes) c.requires in
+    let text = c.put_refused.ensures.text
     ∙ (ap (λ x. x ++ refused_text c.number.result f.at) empty ∙ ap (λ n. refused_text n f.at) c.number.ensures) in
     subst (λ x. Listing c.args.file.now x false) (sym text) (of_refusal f.refusal f.at told.0)

@@ -10,7 +10,7 @@ pub returns : goal.returns
 returns c =
     let v = c.assess-verdict.result in
     let t = c.load.new.table in
-    let text : written c.put-verdict.new.text ≡ lines_text (name_list t) (bounds_list v) ++ verdict_text v.accepted = cc in
-    let told = of_table (contents_of t) (bounds_list v) v.accepted c.in-ok-load.ensures.loads
+    let text : written c.put_verdict.new.text ≡ lines_text (name_list t) (bounds_list v) ++ verdict_text v.accepted = cc in
+    let told = of_table (contents_of t) (bounds_list v) v.accepted c.in_ok-load.ensures.loads
     c.assess-verdict.ensures.verdict.bounds c.assess-verdict.ensures.verdict.accepted in
     subst (λ x. Listing c.args.file.now x v.accepted) (sym text) told
