@@ -7,7 +7,8 @@ use Rattle.model.specs.declared.refusal.Refusal.{Refusal}
 use Rattle.model.specs.declared.refusal.Refusal.TheVariants.{PromiseTooLow}
 use Rattle.model.specs.declared.state.State.{State}
 use Rattle.model.specs.Setups.{Setup}
-use Rattle.model.specs.Orders.{slots_refusal, Run, Slotted, done, denied}
+use Rattle.model.specs.Orders.{slots_refusal}
+use Rattle.model.specs.Amounts.{RunBy, SlottedBy, done_by, denied_by}
 
 -- where no refusal is given, the first one's reason does not hold
 first_fails : (b : Bool) (r : Refusal) (o : Option Refusal) → cond b (Some r) o ≡ None → b ≡ false
@@ -20,8 +21,8 @@ module _ (n : Setup) (promise : ℕ) where
   enough_promised s (suc k) e some = ltb-false _ _ (first_fails (ltb promise n.rate) PromiseTooLow _ e)
 
   pub slots_done : (s : State) (count : ℕ) (amounts : List ℕ) (t : State) → None ≡ slots_refusal n promise s count → length amounts ≡ count →
-      Run n promise s amounts t → Slotted n promise count s None amounts t
-  slots_done s count amounts t e many run = done amounts t (sym e) many run
+      RunBy n promise s amounts t → SlottedBy n promise count s None amounts t
+  slots_done s count amounts t e many run = done_by amounts t (sym e) many run
 
-  pub slots_denied : (s : State) (count : ℕ) (r : Refusal) → Some r ≡ slots_refusal n promise s count → Slotted n promise count s (Some r) [] s
-  slots_denied s count r e = denied r (sym e)
+  pub slots_denied : (s : State) (count : ℕ) (r : Refusal) → Some r ≡ slots_refusal n promise s count → SlottedBy n promise count s (Some r) [] s
+  slots_denied s count r e = denied_by r (sym e)

@@ -4,7 +4,8 @@ use Rattle.model.specs.declared.state.State.{State}
 use Rattle.model.specs.declared.order.Order.{Order}
 use Rattle.model.specs.declared.order.Report.{Report}
 use Rattle.model.specs.Setups.{Setup}
-use Rattle.model.specs.Orders.{Driven, report_of}
+use Rattle.model.specs.Orders.{report_of}
+use Rattle.model.specs.Amounts.{DrivenBy}
 use Rattle.model.specs.Histories.{fresh}
 use Rattle.harvest.specs.Takes.{Taking}
 
@@ -12,4 +13,4 @@ use Rattle.harvest.specs.Takes.{Taking}
 abbrev pub Session : {H : Type 0} → (H → ℕ) → (H → H → Type 0) → Setup → ℕ → H → ℕ → List Order → List Order → Report → Type 0
 Session {H} coming taken n promise harvester level before after report =
     (state : State) × (last : H) × (report ≡ report_of state)
-    × Taking coming taken harvester last (λ amounts. Driven n promise (fresh level) before after amounts state)
+    × Taking coming taken harvester last (λ amounts. DrivenBy n promise (fresh level) before after amounts state)

@@ -79,6 +79,13 @@ impl<H: Harvester> Node<H> {
         })
     }
 
+    // The table, which no call changes.
+    pub fn table(&self) -> &Table
+        ensures { result.now ≡ self.now.table }
+    {
+        &self.table
+    }
+
     // Opens a job of a task, by its number, or says why not.
     pub fn release(&mut self, task: u8, units: u16, draw: u64) -> Result<(), Refusal>
         ensures refusal { refusal_said result ≡

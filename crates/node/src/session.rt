@@ -23,17 +23,13 @@ pub fn run_orders<H: Harvester + Drop>(
 ) -> Result<Report, Refusal>
     ensures cases { elim result [
       | Err e ↦ IsNotStarted (setup_of table) (H.Harvester.promised harvester) level e × (orders.new ≡ orders.old)
-      | Ok report ↦ (table.rate ≤ H.Harvester.promised harvester) × LawfulLevel (setup_of table) level
+      | Ok report ↦ (table.rate ≤ H.Harvester.promised harvester) × Unmarked 9 orders.new × (Accepted table.rate (task_list table) → report.closed ≡ report.finished)
+    ] }
+    ensures session { elim result [
+      | Err e ↦ Unit {0}
+      | Ok report ↦ LawfulLevel (setup_of table) level
           × Session H.Harvester.coming H.Harvester.taken (setup_of table) (H.Harvester.promised harvester) harvester level
           orders.old orders.new report
-    ] }
-    ensures paid { elim result [
-      | Err e ↦ Unit {0}
-      | Ok report ↦ Unmarked 9 orders.new
-    ] }
-    ensures met { elim result [
-      | Err e ↦ Unit {0}
-      | Ok report ↦ (Accepted table.rate (task_list table) → report.closed ≡ report.finished)
     ] }
 {
     match Node::start(table, level, harvester) {

@@ -1,6 +1,7 @@
 // Orders to a node, each done in turn and marked.
 ghost use Rattle.std.specs.Prelude.{◌≡◌, ℕ, ◌≤◌, slice_index_or};
 ghost use Rattle.model.specs.Orders.{Slotted, Obeyed, Driven};
+ghost use Rattle.model.specs.Amounts.{SlottedBy, ObeyedBy, DrivenBy};
 ghost use Rattle.model.specs.Refusals.{mark_of};
 ghost use Rattle.harvest.specs.Takes.{Taking};
 ghost use Rattle.table.specs.Tables.{setup_of};
@@ -14,8 +15,10 @@ use model::refusal::Refusal;
 impl<H: Harvester> Node<H> {
     // One order, and its refusal if it is refused.
     fn obey(&mut self, ask: Ask) -> Option<Refusal>
-        ensures obeyed { Taking H.Harvester.coming H.Harvester.taken self.old.harvester self.new.harvester
-            (λ amounts. Obeyed (setup_of self.old.table) (H.Harvester.promised self.old.harvester)
+        ensures obeyed { Obeyed (setup_of self.old.table) (H.Harvester.promised self.old.harvester)
+            self.old.state ask result self.new.state }
+        ensures taking { Taking H.Harvester.coming H.Harvester.taken self.old.harvester self.new.harvester
+            (λ amounts. ObeyedBy (setup_of self.old.table) (H.Harvester.promised self.old.harvester)
             self.old.state ask result amounts self.new.state) }
         ensures table { self.new.table ≡ self.old.table }
         ensures promise { H.Harvester.promised self.new.harvester ≡ H.Harvester.promised self.old.harvester }
@@ -31,8 +34,10 @@ impl<H: Harvester> Node<H> {
 
     // Some slots, refused whole or done.
     fn obey_slots(&mut self, count: u32) -> Option<Refusal>
-        ensures slotted { Taking H.Harvester.coming H.Harvester.taken self.old.harvester self.new.harvester
-            (λ amounts. Slotted (setup_of self.old.table) (H.Harvester.promised self.old.harvester) count
+        ensures slotted { Slotted (setup_of self.old.table) (H.Harvester.promised self.old.harvester) count
+            self.old.state result self.new.state }
+        ensures taking { Taking H.Harvester.coming H.Harvester.taken self.old.harvester self.new.harvester
+            (λ amounts. SlottedBy (setup_of self.old.table) (H.Harvester.promised self.old.harvester) count
             self.old.state result amounts self.new.state) }
         ensures table { self.new.table ≡ self.old.table }
         ensures promise { H.Harvester.promised self.new.harvester ≡ H.Harvester.promised self.old.harvester }
@@ -46,8 +51,10 @@ impl<H: Harvester> Node<H> {
 
     // Does each order in turn, marks it, and says how many were refused.
     pub fn drive(&mut self, orders: &mut [Order]) -> usize
-        ensures driven { Taking H.Harvester.coming H.Harvester.taken self.old.harvester self.new.harvester
-            (λ amounts. Driven (setup_of self.old.table) (H.Harvester.promised self.old.harvester)
+        ensures driven { Driven (setup_of self.old.table) (H.Harvester.promised self.old.harvester)
+            self.old.state orders.old orders.new self.new.state }
+        ensures taking { Taking H.Harvester.coming H.Harvester.taken self.old.harvester self.new.harvester
+            (λ amounts. DrivenBy (setup_of self.old.table) (H.Harvester.promised self.old.harvester)
             self.old.state orders.old orders.new amounts self.new.state) }
         ensures asks { (k : ℕ) → (slice_index_or orders.new k no_order).ask ≡ (slice_index_or orders.old k no_order).ask }
         ensures count { result ≡ refusals orders.new }

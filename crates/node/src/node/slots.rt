@@ -1,12 +1,12 @@
 // Slots of a node: why they are refused, one by one, and by number.
-ghost use Rattle.std.specs.Prelude.{◌≡◌, ◌<◌, ◌≤◌, length, None, Err, ◌≢◌};
+ghost use Rattle.std.specs.Prelude.{◌≡◌, ◌<◌, ◌≤◌, length, Some, None, Ok, Err, ◌≢◌};
 ghost use Rattle.model.specs.declared.refusal.Refusal.TheVariants.{PromiseTooLow};
 ghost use Rattle.model.specs.Energy.{Harvest};
 ghost use Rattle.model.specs.Slots.{slot_step, slot_answer};
 ghost use Rattle.model.specs.Orders.{slots_refusal, Run};
+ghost use Rattle.model.specs.Amounts.{RunBy};
 ghost use Rattle.harvest.specs.Takes.{Taking};
 ghost use Rattle.table.specs.Tables.{setup_of};
-ghost use Rattle.node.specs.Outcomes.{SlotOutcome};
 
 use crate::advance::advance;
 use crate::node::Node;
@@ -52,8 +52,25 @@ impl<H: Harvester> Node<H> {
 
     // One slot: the most urgent open job runs as soon as the store pays for its next unit.
     pub fn slot(&mut self) -> Result<SlotAnswer, Refusal>
-        ensures cases { SlotOutcome H.Harvester.promised H.Harvester.coming H.Harvester.taken (setup_of self.old.table)
-            self.old.state self.old.harvester result self.new.state self.new.harvester }
+        ensures cases { elim result [
+          | Err e ↦
+              (Some e ≡ slots_refusal (setup_of self.old.table) (H.Harvester.promised self.old.harvester)
+              self.old.state 1)
+              × (self.new.state ≡ self.old.state)
+              × (self.new.harvester ≡ self.old.harvester)
+          | Ok a ↦
+              (None ≡ slots_refusal (setup_of self.old.table) (H.Harvester.promised self.old.harvester)
+              self.old.state 1)
+              × (self.new.state ≡ slot_step (setup_of self.old.table) self.old.state
+              (H.Harvester.coming self.old.harvester))
+              × (a ≡ slot_answer (setup_of self.old.table) self.old.state
+              (H.Harvester.coming self.old.harvester))
+              × Harvest (H.Harvester.promised self.old.harvester) (H.Harvester.coming self.old.harvester)
+        ] }
+        ensures once { elim result [
+          | Err e ↦ Unit {0}
+          | Ok a ↦ H.Harvester.taken self.old.harvester self.new.harvester
+        ] }
         ensures table { self.new.table ≡ self.old.table }
         ensures promise { H.Harvester.promised self.new.harvester ≡ H.Harvester.promised self.old.harvester }
         ensures paid { self.old.table.rate ≤ H.Harvester.promised self.old.harvester → result ≢ Err PromiseTooLow }
@@ -67,8 +84,10 @@ impl<H: Harvester> Node<H> {
     // Some slots that are not refused.
     pub(crate) fn run_slots(&mut self, count: u32)
         requires { None ≡ slots_refusal (setup_of self.old.table) (H.Harvester.promised self.old.harvester) self.old.state count }
-        ensures run { Taking H.Harvester.coming H.Harvester.taken self.old.harvester self.new.harvester
-            (λ amounts. (length amounts ≡ count) × Run (setup_of self.old.table) (H.Harvester.promised self.old.harvester)
+        ensures run { Run (setup_of self.old.table) (H.Harvester.promised self.old.harvester) count
+            self.old.state self.new.state }
+        ensures taking { Taking H.Harvester.coming H.Harvester.taken self.old.harvester self.new.harvester
+            (λ amounts. (length amounts ≡ count) × RunBy (setup_of self.old.table) (H.Harvester.promised self.old.harvester)
             self.old.state amounts self.new.state) }
         ensures table { self.new.table ≡ self.old.table }
         ensures promise { H.Harvester.promised self.new.harvester ≡ H.Harvester.promised self.old.harvester }

@@ -10,8 +10,8 @@ use Rattle.table.proofs.Setups.{setup_lawful}
 use Rattle.node.specs.Turns.{StandsAt, BeginAt}
 use Rattle.node.proofs.advance.choose.Goals as goal
 
-pub overflow-add-state : goal.overflow-add-state
-overflow-add-state c =
+pub overflow_add-state : goal.overflow_add-state
+overflow_add-state c =
     let t = c.args.table.now in
     omega (arith, top_of (setup_of t) (setup_lawful t) _ _ c.requires.reached, t.stored.1, t.rated.1, c.from.ensures, c.requires.gain)
 
@@ -42,12 +42,12 @@ returns-then-job-floor c =
       first = subst (λ (x : List Task). BeginAt (length x) (Some j) s.lines) c.tasks.ensures.value c.in-Some.ensures.first;
     }
 
-pub returns-in-default : goal.returns-in-default
-returns-in-default c =
+pub returns-in_default : goal.returns-in_default
+returns-in_default c =
     let t = c.args.table.now in
     let s = c.args.state.now in
     let tasks = c.tasks.ensures.value in
-    let found = c.in-default.ensures in
+    let found = c.in_default.ensures in
     record {
       turn = ap (turn_with (setup_of t) s.level) (found.value ∙ ap (λ x. candidate 0 x s.lines) tasks);
       workable = tt;

@@ -22,8 +22,8 @@ module _ (n : Setup) (s : State) (task index units draw : ℕ) (number : task �
   kept-outside : s ≡ release_step n s task units draw
   kept-outside = let b : ltb index (length n.tasks) ≡ true = lt-ltb _ _ listed in rw (number, b, outside)
 
-pub returns-then-not-is-within : goal.returns-then-not-is-within
-returns-then-not-is-within c =
+pub returns-then-not-is_within : goal.returns-then-not-is_within
+returns-then-not-is_within c =
     let n = setup_of c.args.table.now in
     let s = c.args.state.now in
     let index = c.from-number.result - 1 in
@@ -33,15 +33,15 @@ returns-then-not-is-within c =
     let number : c.args.task ≡ suc index = omega (arith, c.from-number.ensures, c.if-number-lt1.false) in
     let listed : index < length n.tasks = omega (arith, ap length tasks, c.if-number-lt1.false, c.if-number-tasks.false) in
     let outside : job_fits (get_or n.tasks index no_task) units draw ≡ false =
-    ap (λ (x : List Task). job_fits (get_or x index no_task) units draw) (sym tasks) ∙ sym c.if-not-is-within.ensures in
+    ap (λ (x : List Task). job_fits (get_or x index no_task) units draw) (sym tasks) ∙ sym c.if-not-is_within.ensures in
     record {
       refusal = refused-outside n s _ index units draw number listed outside;
       state = kept-outside n s _ index units draw number listed outside;
       ahead = c.requires.ahead;
     }
 
-pub overflow-add-state : goal.overflow-add-state
-overflow-add-state c =
+pub overflow_add-state : goal.overflow_add-state
+overflow_add-state c =
     let t = c.args.table.now in
     let closed = closed_of (setup_of t) (setup_lawful t) _ _ c.requires.reached in
     let released = released_of (setup_of t) (setup_lawful t) _ _ c.requires.reached in
@@ -56,8 +56,8 @@ returns c =
     let tasks = c.tasks-tasks.ensures.value in
     let listed : index < length n.tasks = omega (arith, ap length tasks, c.if-number-lt1.false, c.if-number-tasks.false) in
     let after : Ahead = record { first = c.min-ahead.result; due = c.min-ahead-2.result } in
-    let due : c.due-clock.result ≡ s.clock + (get_or n.tasks index no_task).deadline =
-    c.due-clock.ensures ∙ ap (λ (x : List Task). s.clock + (get_or x index no_task).deadline) tasks in
+    let due : c.due_clock.result ≡ s.clock + (get_or n.tasks index no_task).deadline =
+    c.due_clock.ensures ∙ ap (λ (x : List Task). s.clock + (get_or x index no_task).deadline) tasks in
     record {
       refusal = search rules;
       state = search rules;

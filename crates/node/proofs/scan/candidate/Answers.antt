@@ -33,5 +33,5 @@ open-preserved c =
     let ls = c.args.lines.now in
     let i = c.open.i in
     let lt : i < length ls = omega arith in
-    let next = c.open.invariant.0 ∙ candidate_next c.args.tasks.now ls i c.open-test.true lt c.in-default.not-Open in
-    (next, none_before_more i ls c.open.invariant.1 c.in-default.not-Open, omega arith)
+    let next = c.open.invariant.0 ∙ candidate_next c.args.tasks.now ls i c.open-test.true lt c.in_default.not-Open in
+    (next, none_before_more i ls c.open.invariant.1 c.in_default.not-Open, omega arith)

@@ -2,7 +2,7 @@ use Rattle.std.proofs.Common.{◌≡◌, ℕ, ◌+◌, ◌<◌, ◌≤◌, lengt
 use Rattle.model.specs.declared.state.Line.TheVariants.{Never, Open}
 use Rattle.model.specs.Tasks.{no_task}
 use Rattle.node.proofs.scan.earliest.Goals as goal
-use Rattle.node.proofs.scan.earliest.Goals.{in-Open, in-default}
+use Rattle.node.proofs.scan.earliest.Goals.{in-Open, in_default}
 
 pub each-init : goal.each-init
 each-init c = λ k below since left draw e. absurd (c.requires.first k below since left draw e)
@@ -23,8 +23,8 @@ each-preserved c =
           below_more Later i (λ k below since left draw e. omega (arith, least, c.each.invariant k below since left draw e))
           (λ since left draw e.
           let same : w.in-Open.released ≡ since = cc in
-          omega (arith, least, w.due-clock.ensures, same))
-      | in-default w ↦
+          omega (arith, least, w.due_clock.ensures, same))
+      | in_default w ↦
           below_more Later i (λ k below since left draw e. omega (arith, w.due-is, c.each.invariant k below since left draw e))
-          (λ since left draw e. absurd (w.in-default.not-Open since left draw e))
+          (λ since left draw e. absurd (w.in_default.not-Open since left draw e))
     ]

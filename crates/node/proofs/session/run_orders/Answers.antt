@@ -10,10 +10,13 @@ returns-in-Ok g c =
     let harvester = g.H.Harvester in
     let session =
     session_of harvester.coming harvester.promised harvester.taken _ _ _ _ _ _ _ _ _ _ _ begun.2 begun.3 begun.4
-    c.report.ensures.state c.drive.ensures.driven in
+    c.report.ensures.state c.drive.ensures.taking in
     let same = c.drive.ensures.table ∙ begun.2 in
     record {
-      cases = (begun.0, begun.1, session);
-      paid = search rules;
-      met = λ accepted. c.report.ensures.met (subst (λ t. Accepted t.rate (task_list t)) (sym same) accepted);
+      cases = (
+        begun.0,
+        search rules,
+        λ accepted. c.report.ensures.met (subst (λ t. Accepted t.rate (task_list t)) (sym same) accepted),
+      );
+      session = (begun.1, session);
     }

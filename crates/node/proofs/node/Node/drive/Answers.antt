@@ -1,7 +1,8 @@
 use Rattle.std.proofs.Common.{◌≡◌, ◌+◌, ◌<◌, true, false, cond, eqb, [], length, get_or, take, drop, sym, refl, ap, ◌∙◌, subst, append-nil, arith, rules}
 use Rattle.std.proofs.lemmas.List.{take_all, drop_all}
 use Rattle.std.proofs.lemmas.Bool.Decides.{nat_tests}
-use Rattle.model.specs.Orders.{Obeyed, stop}
+use Rattle.model.specs.Amounts.{ObeyedBy, stop_by}
+use Rattle.model.proofs.Forgetting.{drive_told}
 use Rattle.table.specs.Tables.{setup_of}
 use Rattle.node.specs.Marks.{refusals, no_order}
 use Rattle.node.proofs.Driving.{rest_more, refusals_more, driven_here, marks_more, takes_append, driven_asks, driven_not_9}
@@ -27,12 +28,12 @@ each-preserved g c =
     ] in
     let ask = (get_or os i no_order).ask in
     let to = c.obey.new.self.state in
-    let did = c.obey.ensures.obeyed in
+    let did = c.obey.ensures.taking in
     let coming = g.H.Harvester.coming in
     let taken = g.H.Harvester.taken in
     let ob =
-    subst (λ t. Obeyed (setup_of t) (promised c.args.self.now.harvester) c.each.self.state ask x did.0 to) inv.0
-    (subst (λ p. Obeyed (setup_of c.each.self.table) p c.each.self.state ask x did.0 to) inv.1 did.1) in (
+    subst (λ t. ObeyedBy (setup_of t) (promised c.args.self.now.harvester) c.each.self.state ask x did.0 to) inv.0
+    (subst (λ p. ObeyedBy (setup_of c.each.self.table) p c.each.self.state ask x did.0 to) inv.1 did.1) in (
       c.obey.ensures.table ∙ inv.0,
       c.obey.ensures.promise ∙ inv.1,
       count ∙ (ap (λ k. k + cond (eqb m 0) 0 1) inv.2 ∙ sym n),
@@ -51,10 +52,11 @@ returns g c =
     let os = c.each.orders in
     let all : take c.each.order-index os ≡ os = take_all _ os (omega arith) in
     let none : drop c.each.order-index os₀ ≡ [] = drop_all _ os₀ (omega arith) in
-    let whole = inv.5 [] [] c.each.self.state c.each.self.harvester (rw none (stop c.each.self.state)) refl in
+    let whole = inv.5 [] [] c.each.self.state c.each.self.harvester (rw none (stop_by c.each.self.state)) refl in
     let d = rw (all, append-nil) at whole in
     record {
-      driven = d;
+      driven = drive_told _ _ d.1;
+      taking = d;
       asks = driven_asks _ _ _ _ _ _ _ d.1;
       count = inv.2 ∙ ap refusals all;
       table = inv.0;

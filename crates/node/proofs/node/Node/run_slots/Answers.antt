@@ -1,7 +1,9 @@
-use Rattle.std.proofs.Common.{◌≡◌, ◌+◌, ◌≤◌, [], ◌∷◌, sym, refl, ap, ◌∙◌, subst, arith}
+use Rattle.std.proofs.Common.{◌≡◌, ◌+◌, ◌≤◌, [], ◌∷◌, length, sym, refl, ap, ◌∙◌, subst, arith}
 use Rattle.model.specs.Energy.{Harvest}
 use Rattle.model.specs.Slots.{slot_step}
-use Rattle.model.specs.Orders.{Run, over, next}
+use Rattle.model.specs.Orders.{Run}
+use Rattle.model.specs.Amounts.{RunBy, over_by, next_by}
+use Rattle.model.proofs.Forgetting.{run_told}
 use Rattle.model.proofs.Reaching.{within_clock}
 use Rattle.table.specs.Tables.{setup_of}
 use Rattle.node.proofs.Running.{enough_promised}
@@ -32,7 +34,7 @@ each-preserved g c =
       did.promise ∙ inv.1,
       omega (arith, ap (λ s. s.clock) to, inv.2),
       λ later t last run takes.
-          let here = next c.each.self.state amount later t law (subst (λ s. Run (setup_of c.args.self.now.table) promise s later t) to run) in
+          let here = next_by c.each.self.state amount later t law (subst (λ s. RunBy (setup_of c.args.self.now.table) promise s later t) to run) in
           let whole = inv.3 (amount ∷ later) t last here (refl, _, did.once, takes) in
           (whole.0, (omega (arith, whole.1.0), whole.1.1), whole.2),
     )
@@ -40,5 +42,13 @@ each-preserved g c =
 pub returns : goal.returns
 returns g c =
     let inv = c.each.invariant in
-    let whole = inv.3 [] c.each.self.state c.each.self.harvester (over _) refl in
-    record { run = (whole.0, (omega (arith, whole.1.0), whole.1.1), whole.2); table = inv.0; promise = inv.1 }
+    let whole = inv.3 [] c.each.self.state c.each.self.harvester (over_by _) refl in
+    let many : length whole.0 ≡ c.args.count = omega (arith, whole.1.0) in
+    let n = setup_of c.args.self.now.table in
+    let promise = g.H.Harvester.promised c.args.self.now.harvester in
+    record {
+      run = subst (λ k. Run n promise k c.args.self.now.state c.each.self.state) many (run_told n promise whole.1.1);
+      taking = (whole.0, (many, whole.1.1), whole.2);
+      table = inv.0;
+      promise = inv.1;
+    }

@@ -1,6 +1,6 @@
 use Rattle.std.proofs.Common.{◌≡◌, ℕ, ◌+◌, List, length}
 use Rattle.model.specs.declared.state.State.{State}
-use Rattle.model.specs.Orders.{Run}
+use Rattle.model.specs.Amounts.{RunBy}
 use Rattle.harvest.specs.Takes.{Takes, Taking}
 use Rattle.table.specs.Tables.{setup_of}
 use Rattle.node.proofs.node.Node.run_slots.Given as goal
@@ -12,8 +12,8 @@ invariant-each g l =
     × (g.H.Harvester.promised l.self.harvester ≡ g.H.Harvester.promised l.initial.self.harvester)
     × (l.self.state.clock ≡ l.initial.self.state.clock + l.counter)
     × ((later : List ℕ) (t : State) (last : g.row.H.Denot) →
-    Run (setup_of l.initial.self.table) (g.H.Harvester.promised l.initial.self.harvester) l.self.state later t →
+    RunBy (setup_of l.initial.self.table) (g.H.Harvester.promised l.initial.self.harvester) l.self.state later t →
     Takes g.H.Harvester.coming g.H.Harvester.taken l.self.harvester later last →
     Taking g.H.Harvester.coming g.H.Harvester.taken l.initial.self.harvester last
     (λ amounts. (length amounts ≡ l.counter + length later)
-    × Run (setup_of l.initial.self.table) (g.H.Harvester.promised l.initial.self.harvester) l.initial.self.state amounts t))
+    × RunBy (setup_of l.initial.self.table) (g.H.Harvester.promised l.initial.self.harvester) l.initial.self.state amounts t))

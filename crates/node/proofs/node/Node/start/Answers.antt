@@ -10,5 +10,8 @@ pub returns-then-level-floor : goal.returns-then-level-floor
 returns-then-level-floor g c =
     (outside (search rules) (λ law. ⊎_elim (λ below. omega arith) (λ above. omega arith) c.then-level-floor.either), search rules)
 
-pub invariant-of-result : goal.invariant-of-result
-invariant-of-result g c = (started_at c.args.table c.args.level (search rules), (∣ (omega arith, λ k below since left draw e. omega arith, λ k below since left draw e. omega arith) ∣₁, tt))
+pub invariant_of-result : goal.invariant_of-result
+invariant_of-result g c = record {
+  reached = started_at c.args.table c.args.level (search rules);
+  looked = ∣ (omega arith, λ k below since left draw e. omega arith, λ k below since left draw e. omega arith) ∣₁;
+}
