@@ -1,4 +1,6 @@
 // The response-time bounds of a task table, and whether the table is accepted.
+#![tactic(auto)]
+
 pub mod assess;
 mod curve;
 mod search;

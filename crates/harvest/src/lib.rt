@@ -1,4 +1,6 @@
 // What brings energy to a node: a steady source, recorded samples, a converter, and two at once.
+#![tactic(auto)]
+
 pub mod cases;
 pub mod converter;
 pub mod harvester;

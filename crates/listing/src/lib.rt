@@ -1,4 +1,6 @@
 // The listing of a table file: its text, its lines, and the scratch text in which they are put together.
+#![tactic(auto)]
+
 pub mod cases;
 mod digits;
 pub mod laws;

@@ -1,4 +1,6 @@
 // The theory of the node: tasks, demand, bounds, slots, histories, the deadline theorem and the worked cases.
+#![tactic(auto)]
+
 pub mod cases;
 pub mod deadlines;
 pub mod histories;

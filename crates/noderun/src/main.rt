@@ -1,4 +1,6 @@
 // noderun: runs a node of a table by orders from standard input, and prints what happened.
+#![tactic(auto)]
+
 mod file;
 mod numbers;
 mod orders;
@@ -9,7 +11,7 @@ mod show;
 
 use crate::request::{Asked, asked_for};
 use crate::serve::serve;
-use anyhow::anyhow;
+use std::process::ExitCode;
 
 const HELP: &str = "usage: noderun [--quiet] TABLE LEVEL HARVESTER < ORDERS
 
@@ -38,21 +40,21 @@ fn help(rt: &HostRuntime) -> anyhow::Result<bool> {
     Ok(true)
 }
 
-fn main(rt: HostRuntime) -> anyhow::Result<()> {
+fn main(rt: HostRuntime) -> anyhow::Result<ExitCode> {
     let done = match asked_for(&rt) {
         Ok(Asked::Help) => help(&rt),
         Ok(Asked::Run { request }) => serve(&rt, &request),
         Err(trouble) => {
             eprintln!(rt; "noderun: {trouble}; try noderun --help")?;
-            return Err(trouble);
+            return Ok(ExitCode::FAILURE);
         }
     };
     match done {
-        Ok(true) => Ok(()),
-        Ok(false) => Err(anyhow!("not all went well")),
+        Ok(true) => Ok(ExitCode::SUCCESS),
+        Ok(false) => Ok(ExitCode::FAILURE),
         Err(trouble) => {
             eprintln!(rt; "noderun: {trouble}")?;
-            Err(trouble)
+            Ok(ExitCode::FAILURE)
         }
     }
 }

@@ -1,4 +1,6 @@
 // Tables: the table with its limits in its type, and the way from a file's bytes to a table.
+#![tactic(auto)]
+
 pub mod cases;
 pub mod fault;
 pub mod laws;

@@ -1,11 +1,12 @@
 // tablecheck: reads a table file from standard input and writes its listing.
-ghost use Rattle.std.specs.Prelude.{◌≤◌, length};
+#![tactic(auto)]
 
 use anyhow::anyhow;
 use input::fill;
 use listing::list::listing;
 use std::env;
 use std::io::Write;
+use std::process::ExitCode;
 
 const HELP: &str = "usage: tablecheck < TABLE
 
@@ -63,7 +64,7 @@ fn check(rt: &HostRuntime) -> anyhow::Result<bool> {
     }
 }
 
-fn main(rt: HostRuntime) -> anyhow::Result<()> {
+fn main(rt: HostRuntime) -> anyhow::Result<ExitCode> {
     let done = match asked_for(&rt) {
         Ok(Request::Check) => check(&rt),
         Ok(Request::Help) => help(&rt),
@@ -71,11 +72,11 @@ fn main(rt: HostRuntime) -> anyhow::Result<()> {
         Err(trouble) => Err(trouble),
     };
     match done {
-        Ok(true) => Ok(()),
-        Ok(false) => Err(anyhow!("not accepted")),
+        Ok(true) => Ok(ExitCode::SUCCESS),
+        Ok(false) => Ok(ExitCode::FAILURE),
         Err(trouble) => {
             eprintln!(rt; "tablecheck: {trouble}")?;
-            Err(trouble)
+            Ok(ExitCode::FAILURE)
         }
     }
 }
