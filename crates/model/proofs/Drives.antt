@@ -1,7 +1,7 @@
 -- Orders, and the amounts that their slots brought, settle the marks and the state.
 --   run_one, slots_one, order_one   so it is for slots in turn, for slots by number, and for one order
 --   one_drive                       and for a list of orders
-use Rattle.std.proofs.Common.{◌≡◌, ℕ, suc, List, [], ◌∷◌, ◌++◌, length, Some, None, Option, sym, refl, ap, ◌∙◌, subst, arith}
+use Rattle.std.proofs.Common.{◌≡◌, ℕ, List, [], ◌∷◌, ◌++◌, length, Option, sym, refl, ap, ◌∙◌, subst, arith}
 use Rattle.model.specs.declared.refusal.Refusal.{Refusal}
 use Rattle.model.specs.declared.order.Ask.{Ask}
 use Rattle.model.specs.declared.order.Ask.TheVariants.{Release, Slots}

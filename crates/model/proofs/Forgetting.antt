@@ -1,6 +1,6 @@
 -- What is told with the amounts that the slots brought holds without them.
 --   run_told, slots_told, order_told, drive_told   slots in turn, slots by number, one order, and a list of orders
-use Rattle.std.proofs.Common.{◌≡◌, ℕ, suc, List, length, Some, None, Option, subst}
+use Rattle.std.proofs.Common.{ℕ, List, length, Option, subst}
 use Rattle.model.specs.declared.refusal.Refusal.{Refusal}
 use Rattle.model.specs.declared.order.Ask.{Ask}
 use Rattle.model.specs.declared.order.Ask.TheVariants.{Release, Slots}

@@ -10,7 +10,7 @@
 use Rattle.std.proofs.Common.{◌≡◌, ℕ, ◌+◌, ◌-◌, ◌<◌, ◌≤◌, min, Bool, true, false, cond, List, [], ◌∷◌}
 use Rattle.model.specs.declared.task.Task.{Task}
 use Rattle.model.specs.declared.state.Line.{Line}
-use Rattle.model.specs.declared.state.Line.TheVariants.{Never, Closed, Open}
+use Rattle.model.specs.declared.state.Line.TheVariants.{Closed, Open}
 use Rattle.model.specs.declared.state.State.{State}
 use Rattle.model.specs.Setups.{Setup, gain}
 use Rattle.model.specs.Energy.{Harvest, LawfulLevel}

@@ -1,5 +1,5 @@
 -- The worked cases of the rule, each as it computes.
-use Rattle.std.proofs.Common.{ℕ, zero, suc, ◌<◌, ◌≤◌, [], ◌∷◌, length, Some, None, refl, inl, ⊎_elim, arith, lit<, lit≤}
+use Rattle.std.proofs.Common.{zero, suc, ◌≤◌, [], ◌∷◌, Some, None, refl, inl, ⊎_elim, arith, lit<, lit≤}
 use Rattle.model.specs.declared.refusal.Refusal.TheVariants.{NoSuchTask}
 use Rattle.model.specs.Tasks.{Each, Sized, Timed, Payable}
 use Rattle.model.specs.Setups.{gain, LawfulSetup, OneSided}

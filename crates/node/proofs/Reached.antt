@@ -2,7 +2,7 @@
 --   started_at    a start at a lawful level
 --   released_to, slotted_to   one call more
 --   met_of, within_of   each closed job of an accepted table was finished, within its task's safe bound
-use Rattle.std.proofs.Common.{◌≡◌, ℕ, ◌+◌, ◌<◌, ◌≤◌, get_or, Some, None, Option, arith}
+use Rattle.std.proofs.Common.{◌≡◌, ℕ, ◌<◌, get_or, Some, None, Option, arith}
 use mathlib.Core.Logic.{∥∥₁_elim}
 use mathlib.Core.HLevel.{Unit-prop}
 use native.Mathlib.Bridge.{le_prop}

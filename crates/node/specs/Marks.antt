@@ -2,7 +2,7 @@
 --   refusals   how many orders were refused
 --   Unmarked   no order has a given mark
 --   no_order   what stands past the end of a list of orders
-use Rattle.std.specs.Prelude.{◌≡◌, ℕ, ◌+◌, cond, List, [], ◌∷◌, ◌==◌, ◌≢◌}
+use Rattle.std.specs.Prelude.{ℕ, ◌+◌, cond, List, [], ◌∷◌, ◌==◌, ◌≢◌}
 use Rattle.model.specs.declared.order.Ask.TheVariants.{Release}
 use Rattle.model.specs.declared.order.Order.{Order}
 

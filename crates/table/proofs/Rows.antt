@@ -1,5 +1,5 @@
 -- One row more in a table: what a write at the end of the first n elements gives.
-use Rattle.std.proofs.Common.{◌≡◌, ℕ, ◌+◌, ◌<◌, ◌≤◌, ◌≢◌, List, [], ◌∷◌, ◌++◌, map, length, get_or, take, set, ap, ◌∙◌, add-one, arith, length-take, get_or-set_other, get_or-take, get_or-set_same, take-suc-set, below_more}
+use Rattle.std.proofs.Common.{◌≡◌, ℕ, ◌+◌, ◌<◌, ◌≢◌, List, [], ◌∷◌, ◌++◌, map, length, get_or, take, set, ap, ◌∙◌, add-one, arith, length-take, get_or-set_other, get_or-take, get_or-set_same, take-suc-set, below_more}
 use mathlib.Core.List.{map-append}
 use Rattle.model.specs.declared.task.Task.{Task}
 use Rattle.table.specs.Contents.{Contents}

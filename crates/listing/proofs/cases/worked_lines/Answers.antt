@@ -1,7 +1,6 @@
 -- The worked lines, from the digits of their numbers.
-use Rattle.std.proofs.Common.{◌≡◌, ℕ, ◌/◌, ◌^◌, ◌<◌, ◌≤◌, ◌++◌, Some, None, codes, decimal, refl, ap, ◌∙◌, lit<, lit≤}
+use Rattle.std.proofs.Common.{◌≡◌, ◌++◌, codes, decimal, refl, ap, ◌∙◌, lit<, lit≤}
 use Rattle.std.proofs.lemmas.Fmt.{decimal_digit, decimal_step}
-use Rattle.listing.specs.Lines.{line_text, refused_text}
 use Rattle.listing.proofs.cases.worked_lines.Goals as goal
 
 ten : decimal 10 ≡ codes "10"

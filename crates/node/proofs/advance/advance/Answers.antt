@@ -1,5 +1,4 @@
 use Rattle.std.proofs.Common.{◌≡◌, ◌+◌, ◌≤◌, List, length, sym, refl, ap, ◌∙◌, subst, arith, rules}
-use Rattle.model.specs.declared.state.Line.{Line}
 use Rattle.model.specs.declared.state.State.{State}
 use Rattle.model.specs.declared.task.Task.{Task}
 use Rattle.model.specs.Energy.{put_level}

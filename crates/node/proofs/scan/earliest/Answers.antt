@@ -1,4 +1,4 @@
-use Rattle.std.proofs.Common.{◌≡◌, ℕ, ◌+◌, ◌<◌, ◌≤◌, length, get_or, sym, ◌∙◌, arith, below_more}
+use Rattle.std.proofs.Common.{◌≡◌, ℕ, ◌+◌, ◌≤◌, get_or, ◌∙◌, arith, below_more}
 use Rattle.model.specs.declared.state.Line.TheVariants.{Never, Open}
 use Rattle.model.specs.Tasks.{no_task}
 use Rattle.node.proofs.scan.earliest.Goals as goal
