@@ -1,6 +1,6 @@
 // The lines of a node beside its tasks: the most urgent open job, and the jobs that are due.
 ghost use Rattle.std.specs.Prelude.{◌≡◌, ◌+◌, ◌≤◌, length, ◌==◌};
-ghost use Rattle.model.specs.Slots.{candidate as most-urgent, expired, abandoned};
+ghost use Rattle.model.specs.Slots.{candidate as most_urgent, expired, abandoned};
 ghost use Rattle.node.specs.Turns.{candidate_said, CandidateStands, BeginAt};
 ghost use Rattle.node.specs.Ahead.{NoneBefore, NoneDueBefore};
 
@@ -12,7 +12,7 @@ use model::task::Task;
 pub(crate) fn candidate(first: usize, tasks: &[Task], lines: &[Line]) -> Option<Job>
     requires sizes { (length tasks.now ≤ length lines.now) × (first ≤ length tasks.now) }
     requires first { NoneBefore first lines.now }
-    ensures value { candidate_said result ≡ most-urgent 0 tasks.now lines.now }
+    ensures value { candidate_said result ≡ most_urgent 0 tasks.now lines.now }
     ensures stands { CandidateStands tasks.now lines.now result }
     ensures first { BeginAt (length tasks.now) result lines.now }
 {
