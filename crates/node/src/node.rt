@@ -1,26 +1,33 @@
 // The node, whose type says that its state was reached by a history of its table.
-ghost use Rattle.std.specs.Prelude.{◌≡◌, ◌≤◌, Ok, Err};
+ghost use Rattle.std.specs.Prelude.{◌≡◌, ◌≤◌, Ok, Err, ◌<◌, length, Some, None, ◌≢◌, ℕ, slice_index_or};
+ghost use Rattle.model.specs.declared.refusal.Refusal.TheVariants.{PromiseTooLow};
 ghost use Rattle.model.specs.Windows.{Accepted};
-ghost use Rattle.model.specs.Energy.{LawfulLevel};
+ghost use Rattle.model.specs.Energy.{LawfulLevel, Harvest};
+ghost use Rattle.model.specs.Slots.{slot_step, slot_answer};
 ghost use Rattle.model.specs.Releases.{release_refusal, release_step};
-ghost use Rattle.model.specs.Orders.{report_of};
+ghost use Rattle.model.specs.Orders.{report_of, slots_refusal, Run, Slotted, Obeyed, Driven};
 ghost use Rattle.model.specs.Histories.{History, fresh};
+ghost use Rattle.model.specs.Refusals.{mark_of};
 ghost use Rattle.table.specs.Tables.{setup_of, task_list};
-ghost use Rattle.node.specs.Ahead.{LooksAhead};
 ghost use Rattle.node.specs.Outcomes.{refusal_said};
 ghost use Rattle.node.specs.Starts.{IsNotStarted};
+ghost use Rattle.node.specs.Marks.{refusals, Unmarked, no_order};
+ghost use Rattle.node.specs.Ahead.{LooksAhead};
 ghost use Rattle.node.specs.Reports.{ResponsesWithin};
+ghost use Rattle.model.specs.Amounts.{RunBy, SlottedBy, ObeyedBy, DrivenBy};
+ghost use Rattle.harvest.specs.Takes.{Taking};
 
+use crate::advance::advance;
 use crate::ahead::Ahead;
 use crate::release::release_into;
 use harvest::harvester::Harvester;
-use model::order::Report;
+use model::order::{Ask, Order, Report};
 use model::refusal::Refusal;
+use model::slot::SlotAnswer;
 use model::state::{Line, State};
 use table::table::Table;
 
-pub mod drive;
-pub mod slots;
+const CLOCK_END: u64 = 4_000_000_000;
 
 #[derive(Drop)]
 pub struct Node<H> {
@@ -105,6 +112,146 @@ impl<H: Harvester> Node<H> {
         )
     }
 
+    // Why a number of slots is refused, if it is.
+    pub fn slots_refused(&self, count: u32) -> Option<Refusal>
+        ensures { result ≡ slots_refusal (setup_of self.now.table) (H.Harvester.promised self.now.harvester)
+            self.now.state count }
+    {
+        if count == 0 {
+            return None;
+        }
+        if self.harvester.promise() < self.table.rate() {
+            return Some(Refusal::PromiseTooLow);
+        }
+        if self.state.clock as u64 + count as u64 > CLOCK_END {
+            return Some(Refusal::ClockEnd);
+        }
+        None
+    }
+
+    // One slot that is not refused.
+    fn step(&mut self) -> SlotAnswer
+        requires { (self.old.table.rate ≤ H.Harvester.promised self.old.harvester) × (self.old.state.clock < 4000000000) }
+        ensures state { self.new.state ≡
+            slot_step (setup_of self.old.table) self.old.state (H.Harvester.coming self.old.harvester) }
+        ensures answer { result ≡
+            slot_answer (setup_of self.old.table) self.old.state (H.Harvester.coming self.old.harvester) }
+        ensures brought { Harvest (H.Harvester.promised self.old.harvester) (H.Harvester.coming self.old.harvester) }
+        ensures once { H.Harvester.taken self.old.harvester self.new.harvester }
+        ensures table { self.new.table ≡ self.old.table }
+        ensures promise { H.Harvester.promised self.new.harvester ≡ H.Harvester.promised self.old.harvester }
+    {
+        let harvest = bring(&mut self.harvester);
+        advance(&self.table, &mut self.state, &mut self.ahead, harvest)
+    }
+
+    // One slot: the most urgent open job runs as soon as the store pays for its next unit.
+    pub fn slot(&mut self) -> Result<SlotAnswer, Refusal>
+        ensures cases { elim result [
+          | Err e ↦
+              (Some e ≡ slots_refusal (setup_of self.old.table) (H.Harvester.promised self.old.harvester)
+              self.old.state 1)
+              × (self.new.state ≡ self.old.state)
+              × (self.new.harvester ≡ self.old.harvester)
+          | Ok a ↦
+              (None ≡ slots_refusal (setup_of self.old.table) (H.Harvester.promised self.old.harvester)
+              self.old.state 1)
+              × (self.new.state ≡ slot_step (setup_of self.old.table) self.old.state
+              (H.Harvester.coming self.old.harvester))
+              × (a ≡ slot_answer (setup_of self.old.table) self.old.state
+              (H.Harvester.coming self.old.harvester))
+              × Harvest (H.Harvester.promised self.old.harvester) (H.Harvester.coming self.old.harvester)
+        ] }
+        ensures once { elim result [
+          | Err e ↦ Unit {0}
+          | Ok a ↦ H.Harvester.taken self.old.harvester self.new.harvester
+        ] }
+        ensures table { self.new.table ≡ self.old.table }
+        ensures promise { H.Harvester.promised self.new.harvester ≡ H.Harvester.promised self.old.harvester }
+        ensures paid { self.old.table.rate ≤ H.Harvester.promised self.old.harvester → result ≢ Err PromiseTooLow }
+    {
+        if let Some(refusal) = self.slots_refused(1) {
+            return Err(refusal);
+        }
+        Ok(self.step())
+    }
+
+    // Some slots that are not refused.
+    fn run_slots(&mut self, count: u32)
+        requires { None ≡ slots_refusal (setup_of self.old.table) (H.Harvester.promised self.old.harvester) self.old.state count }
+        ensures run { Run (setup_of self.old.table) (H.Harvester.promised self.old.harvester) count
+            self.old.state self.new.state }
+        ensures taking { Taking H.Harvester.coming H.Harvester.taken self.old.harvester self.new.harvester
+            (λ amounts. (length amounts ≡ count) × RunBy (setup_of self.old.table) (H.Harvester.promised self.old.harvester)
+            self.old.state amounts self.new.state) }
+        ensures table { self.new.table ≡ self.old.table }
+        ensures promise { H.Harvester.promised self.new.harvester ≡ H.Harvester.promised self.old.harvester }
+    {
+        'each: for _ in 0..count {
+            let _ = self.step();
+        }
+    }
+
+    // One order, and its refusal if it is refused.
+    fn obey(&mut self, ask: Ask) -> Option<Refusal>
+        ensures obeyed { Obeyed (setup_of self.old.table) (H.Harvester.promised self.old.harvester)
+            self.old.state ask result self.new.state }
+        ensures taking { Taking H.Harvester.coming H.Harvester.taken self.old.harvester self.new.harvester
+            (λ amounts. ObeyedBy (setup_of self.old.table) (H.Harvester.promised self.old.harvester)
+            self.old.state ask result amounts self.new.state) }
+        ensures table { self.new.table ≡ self.old.table }
+        ensures promise { H.Harvester.promised self.new.harvester ≡ H.Harvester.promised self.old.harvester }
+    {
+        match ask {
+            Ask::Release { task, units, draw } => match self.release(task, units, draw) {
+                Ok(()) => None,
+                Err(refusal) => Some(refusal),
+            },
+            Ask::Slots { count } => self.obey_slots(count),
+        }
+    }
+
+    // Some slots, refused whole or done.
+    fn obey_slots(&mut self, count: u32) -> Option<Refusal>
+        ensures slotted { Slotted (setup_of self.old.table) (H.Harvester.promised self.old.harvester) count
+            self.old.state result self.new.state }
+        ensures taking { Taking H.Harvester.coming H.Harvester.taken self.old.harvester self.new.harvester
+            (λ amounts. SlottedBy (setup_of self.old.table) (H.Harvester.promised self.old.harvester) count
+            self.old.state result amounts self.new.state) }
+        ensures table { self.new.table ≡ self.old.table }
+        ensures promise { H.Harvester.promised self.new.harvester ≡ H.Harvester.promised self.old.harvester }
+    {
+        if let Some(refusal) = self.slots_refused(count) {
+            return Some(refusal);
+        }
+        self.run_slots(count);
+        None
+    }
+
+    // Does each order in turn, marks it, and says how many were refused.
+    pub fn drive(&mut self, orders: &mut [Order]) -> usize
+        ensures driven { Driven (setup_of self.old.table) (H.Harvester.promised self.old.harvester)
+            self.old.state orders.old orders.new self.new.state }
+        ensures taking { Taking H.Harvester.coming H.Harvester.taken self.old.harvester self.new.harvester
+            (λ amounts. DrivenBy (setup_of self.old.table) (H.Harvester.promised self.old.harvester)
+            self.old.state orders.old orders.new amounts self.new.state) }
+        ensures asks { (k : ℕ) → (slice_index_or orders.new k no_order).ask ≡ (slice_index_or orders.old k no_order).ask }
+        ensures count { result ≡ refusals orders.new }
+        ensures table { self.new.table ≡ self.old.table }
+        ensures promise { H.Harvester.promised self.new.harvester ≡ H.Harvester.promised self.old.harvester }
+        ensures paid { self.old.table.rate ≤ H.Harvester.promised self.old.harvester → Unmarked 9 orders.new }
+    {
+        let mut refused = 0usize;
+        'each: for order in orders.iter_mut() {
+            let mark = mark(self.obey(order.ask));
+            order.mark = mark;
+            if mark != 0 {
+                refused += 1;
+            }
+        }
+        refused
+    }
+
     // The state so far. Each closed job of an accepted table was finished by its deadline, and within its task's safe bound.
     pub fn report(&self) -> Report
         ensures state { result ≡ report_of self.now.state }
@@ -120,5 +267,25 @@ impl<H: Harvester> Node<H> {
             finished: self.state.finished,
             longest: self.state.longest,
         }
+    }
+}
+
+// What a harvester brings in the coming slot: it is taken from once.
+fn bring<H: Harvester>(harvester: &mut H) -> u32
+    ensures amount { result ≡ H.Harvester.coming harvester.old }
+    ensures once { H.Harvester.taken harvester.old harvester.new }
+    ensures same { H.Harvester.promised harvester.new ≡ H.Harvester.promised harvester.old }
+    ensures law { Harvest (H.Harvester.promised harvester.old) (H.Harvester.coming harvester.old) }
+{
+    harvester.take()
+}
+
+// 0 for an order that was done, else the number of its refusal.
+fn mark(outcome: Option<Refusal>) -> u8
+    ensures { result ≡ mark_of outcome }
+{
+    match outcome {
+        None => 0,
+        Some(refusal) => refusal.number(),
     }
 }
