@@ -71,6 +71,18 @@ pub fn heavy() -> Vec<u8> {
     file
 }
 
+/// A table of 16 tasks that, all released together with full units and
+/// draws, keep a node busy until the last deadline at a mean harvest of up to
+/// nearly 20 in each slot.
+pub fn busy() -> Vec<u8> {
+    let mut file = node(10, 0, 1_000);
+    for number in 1..=16 {
+        let name = format!("busy{number}");
+        file.extend(task(50, 10_000, 10_000, 180 + 8 * number, name.as_bytes()));
+    }
+    file
+}
+
 /// Files at, below and above each border, with a word on each.
 pub fn edges() -> Vec<(String, Vec<u8>)> {
     let mut edges = Edges(Vec::new());

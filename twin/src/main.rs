@@ -21,6 +21,7 @@ use std::process::ExitCode;
 
 use bench::Load;
 use listing::Outcome;
+use node::{Harvester, Node};
 
 const HELP: &str = "\
 twin: tablecheck and noderun a second time, and the comparison of both
@@ -37,6 +38,8 @@ twin: tablecheck and noderun a second time, and the comparison of both
                                     run PROGRAM as a noderun on edge
                                     histories and on COUNT random ones and
                                     compare the answers
+  twin bench-node COUNT             run a busy node for COUNT slots by one
+                                    order, print its report
   twin long TABLECHECK NODERUN SEED SECONDS
                                     do both for so many seconds, with new
                                     random cases in each round; stop at the
@@ -49,6 +52,8 @@ twin: tablecheck and noderun a second time, and the comparison of both
   twin largest                      write a table of 16 tasks and 568 bytes
   twin rounds TASKS ROUNDS          write a table, its tasks but the first
                                     with so many rounds on each curve
+  twin busy                         write a table of 16 tasks that keep a
+                                    node busy for 10,000 slots
   twin busy TASKS                   write a table for a node that runs a unit
                                     in every slot
   twin busy-orders TASKS SLOTS      write the orders for so many such slots
@@ -76,6 +81,10 @@ fn main() -> ExitCode {
             (Ok(seed), Ok(count)) => compare_node::compare_node(program, seed, count),
             _ => return usage(),
         },
+        ["bench-node", count] => match count.parse() {
+            Ok(count) => bench_node(count),
+            Err(_) => return usage(),
+        },
         ["long", tablecheck, noderun, seed, seconds] => match (seed.parse(), seconds.parse()) {
             (Ok(seed), Ok(seconds)) => long::long(tablecheck, noderun, seed, seconds),
             _ => return usage(),
@@ -91,6 +100,7 @@ fn main() -> ExitCode {
             },
             _ => return usage(),
         },
+        ["busy"] => write(&files::busy()),
         ["busy" | "waiting", tasks] => match load(words[0], tasks) {
             Some(load) => write(&load.table()),
             None => return usage(),
@@ -138,6 +148,26 @@ fn tablecheck() -> io::Result<bool> {
     let listing = listing::list(&file);
     write(&listing.text)?;
     Ok(listing.outcome == Outcome::Accepted)
+}
+
+/// Releases every task of the busy table once, with full units and draws.
+fn bench_node(count: u32) -> io::Result<bool> {
+    let file = files::busy();
+    let table = table::load(&file).expect("a lawful file");
+    let harvester = Harvester::pair(Harvester::steady(4), Harvester::trace(&[6, 9, 30, 12]));
+    let mut node = Node::start(&table, harvester, 0).expect("a lawful start");
+    for (task, number) in table.tasks.iter().zip(1..) {
+        node.release(number, task.units as u16, task.draw)
+            .expect("a lawful release");
+    }
+    let outcome = node.slots(count, |_| ());
+    let mut text = Vec::new();
+    if let Err(number) = outcome {
+        writeln!(text, "refused {number}")?;
+    }
+    noderun::put_report(&mut text, &table, &bounds::bounds(&table), &node.report())?;
+    write(&text)?;
+    Ok(outcome.is_ok())
 }
 
 fn write(bytes: &[u8]) -> io::Result<bool> {

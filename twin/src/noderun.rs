@@ -284,7 +284,7 @@ fn obey(
     written.map(|()| outcome)
 }
 
-fn put_report(
+pub fn put_report(
     out: &mut impl Write,
     table: &Table,
     bounds: &[Bounds],

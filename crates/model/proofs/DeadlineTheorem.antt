@@ -1,11 +1,13 @@
 -- The deadline theorem, put together from its two halves over the slot as it is defined.
-use Rattle.std.proofs.Common.{ℕ, ◌≤◌}
+use Rattle.std.proofs.Common.{ℕ, ◌<◌, ◌≤◌, length, Some, ap, ⊎_elim, arith}
+use Rattle.std.proofs.lemmas.List.{get_or_past}
+use Rattle.std.proofs.lemmas.Bool.{cases_lt}
 use Rattle.model.specs.declared.state.State.{State}
-use Rattle.model.specs.Demand.{safe_curve}
+use Rattle.model.specs.Laws.{SafeBound}
+use Rattle.model.specs.Tasks.{no_task}
 use Rattle.model.specs.Setups.{Setup, gain, LawfulSetup}
 use Rattle.model.specs.Slots.{slot_step}
 use Rattle.model.specs.OnTime.{NeverLate, Exact, WithinBounds, DeadlineTheorem}
-use Rattle.model.proofs.DemandLaws.{bound_has_task}
 use Rattle.model.proofs.Rule.{Rule}
 use Rattle.model.proofs.Searches.{present_fits}
 use Rattle.model.proofs.SlotRule.{rule_of_slot}
@@ -29,11 +31,17 @@ module _ (n : Setup) (lawful : LawfulSetup n) where
     on_time_accepted n lawful rule (λ promise s history. sound n lawful promise s (reached n promise s history)) side,
   )
 
+  -- only a task of the table has a safe bound
+  listed : (index bound : ℕ) → SafeBound (gain n) n.tasks index (Some bound) → index < length n.tasks
+  listed index bound safe =
+      ⊎_elim (λ within. within)
+      (λ past. absurd (omega (arith, safe.0, safe.1, ap (λ t. t.deadline) (get_or_past n.tasks index no_task past))))
+      (cases_lt index (length n.tasks))
+
   pub accepted_within_bounds : WithinBounds n
   accepted_within_bounds accepted promise s history index bound safe =
-      let listed = bound_has_task (safe_curve (gain n) n.tasks index) n.tasks index bound safe in
       responses_within n lawful index bound
-      (young n lawful rule (sound n lawful) accepted index bound listed (present_fits (gain n) n.tasks index bound safe))
+      (young n lawful rule (sound n lawful) accepted index bound (listed index bound safe) (present_fits (gain n) n.tasks index bound safe))
       promise s (reached n promise s history)
 
 pub deadline_theorem : DeadlineTheorem

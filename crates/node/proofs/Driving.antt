@@ -2,7 +2,7 @@
 --   driven_asks      the asks are as they were
 --   driven_not_9     no mark is 9 where the harvester promises the rate
 --   takes_append     takes one after the other
---   driven_here, marks_more   one order more
+--   driven_more      one order more; driven_here, marks_more, with the amounts of its slots
 use Rattle.std.proofs.Common.{◌≡◌, ℕ, zero, suc, ◌+◌, ◌<◌, ◌≤◌, Bool, true, false, cond, eqb, ltb, List, [], ◌∷◌, ◌++◌, length, get_or, take, drop, set, Some, None, Option, sym, refl, ap, ◌∙◌, subst, append_assoc, arith}
 use Rattle.std.proofs.lemmas.List.{take_more_set, drop_more, drop-set-lt}
 use Rattle.std.proofs.lemmas.Bool.{le-ltb}
@@ -17,8 +17,8 @@ use Rattle.model.specs.Refusals.{mark_of}
 use Rattle.model.specs.Tasks.{no_task}
 use Rattle.model.specs.Setups.{Setup}
 use Rattle.model.specs.Releases.{clock_end, job_fits, too_early, release_refusal}
-use Rattle.model.specs.Orders.{slots_refusal, marked}
-use Rattle.model.specs.Amounts.{SlottedBy, done_by, denied_by, ObeyedBy, DrivenBy, stop_by, step_by}
+use Rattle.model.specs.Orders.{slots_refusal, Slotted, done, denied, Obeyed, marked, Driven, stop, step}
+use Rattle.model.specs.Amounts.{ObeyedBy, DrivenBy, step_by}
 use Rattle.harvest.specs.Takes.{Takes}
 use Rattle.node.specs.Marks.{refusals, Unmarked, no_order}
 
@@ -50,23 +50,23 @@ module _ (n : Setup) (promise : ℕ) (enough : n.rate ≤ promise) where
       late_not_9 n late
       (subst (λ b. mark_of (cond b (Some PromiseTooLow) (cond late (Some ClockEnd) None)) ≡ 9) (le-ltb promise n.rate enough) e)
 
-  slots_not_9 : (s : State) (count : ℕ) (o : Option Refusal) (xs : List ℕ) (t : State) → SlottedBy n promise count s o xs t → mark_of o ≡ 9 → ⊥
-  slots_not_9 s count o xs t (done_by ys u p many run) e = omega arith
-  slots_not_9 s count o xs t (denied_by r p) e = refusal_not_9 s count (ap mark_of p ∙ e)
+  slots_not_9 : (s : State) (count : ℕ) (o : Option Refusal) (t : State) → Slotted n promise count s o t → mark_of o ≡ 9 → ⊥
+  slots_not_9 s count o t (done u p run) e = omega arith
+  slots_not_9 s count o t (denied r p) e = refusal_not_9 s count (ap mark_of p ∙ e)
 
-  obeyed_not_9 : (s : State) (a : Ask) (o : Option Refusal) (xs : List ℕ) (t : State) → ObeyedBy n promise s a o xs t → mark_of o ≡ 9 → ⊥
-  obeyed_not_9 s (Release task units draw) o xs t h e = release_not_9 n s task units draw (sym (ap mark_of h.0) ∙ e)
-  obeyed_not_9 s (Slots count) o xs t h e = slots_not_9 s count o xs t h e
+  obeyed_not_9 : (s : State) (a : Ask) (o : Option Refusal) (t : State) → Obeyed n promise s a o t → mark_of o ≡ 9 → ⊥
+  obeyed_not_9 s (Release task units draw) o t h e = release_not_9 n s task units draw (sym (ap mark_of h.0) ∙ e)
+  obeyed_not_9 s (Slots count) o t h e = slots_not_9 s count o t h e
 
-  pub driven_not_9 : (s : State) (os ps : List Order) (xs : List ℕ) (t : State) → DrivenBy n promise s os ps xs t → Unmarked 9 ps
-  driven_not_9 s os ps xs t (stop_by r) = tt
-  driven_not_9 s os ps xs t (step_by r v w o x os' ps' here later h rest) = (obeyed_not_9 r o.ask x here v h, driven_not_9 v os' ps' later w rest)
+  pub driven_not_9 : (s : State) (os ps : List Order) (t : State) → Driven n promise s os ps t → Unmarked 9 ps
+  driven_not_9 s os ps t (stop r) = tt
+  driven_not_9 s os ps t (step r v w o x os' ps' h rest) = (obeyed_not_9 r o.ask x v h, driven_not_9 v os' ps' w rest)
 
-pub driven_asks : (n : Setup) (promise : ℕ) (s : State) (os ps : List Order) (xs : List ℕ) (t : State) → DrivenBy n promise s os ps xs t →
+pub driven_asks : (n : Setup) (promise : ℕ) (s : State) (os ps : List Order) (t : State) → Driven n promise s os ps t →
     (k : ℕ) → (get_or ps k no_order).ask ≡ (get_or os k no_order).ask
-driven_asks n promise s os ps xs t (stop_by r) k = refl
-driven_asks n promise s os ps xs t (step_by r v w o x os' ps' here later h rest) zero = refl
-driven_asks n promise s os ps xs t (step_by r v w o x os' ps' here later h rest) (suc k) = driven_asks n promise v os' ps' later w rest k
+driven_asks n promise s os ps t (stop r) k = refl
+driven_asks n promise s os ps t (step r v w o x os' ps' h rest) zero = refl
+driven_asks n promise s os ps t (step r v w o x os' ps' h rest) (suc k) = driven_asks n promise v os' ps' w rest k
 
 -- takes one after the other are takes
 pub takes_append : {H : Type 0} (coming : H → ℕ) (taken : H → H → Type 0) (xs ys : List ℕ) (h m g : H) → Takes coming taken h xs m →
@@ -92,6 +92,19 @@ module _ (os₀ os : List Order) (i m : ℕ) (lt₀ : i < length os₀) (lt : i 
 
   pub refusals_more : refusals (take (i + 1) (set os i (marked (get_or os i no_order) m))) ≡ refusals (take i os) + cond (eqb m 0) 0 1
   refusals_more = rw take_more_set (refusals_push (take i os) (marked (get_or os i no_order) m) ∙ omega arith)
+
+  pub driven_more : (n : Setup) (promise : ℕ) (s₀ s t : State) (x : Option Refusal) → m ≡ mark_of x →
+      Obeyed n promise s (get_or os i no_order).ask x t →
+      ((ps : List Order) (u : State) → Driven n promise s (drop i os₀) ps u → Driven n promise s₀ os₀ (take i os ++ ps) u) →
+      (ps : List Order) (u : State) → Driven n promise t (drop (i + 1) os₀) ps u →
+      Driven n promise s₀ os₀ (take (i + 1) (set os i (marked (get_or os i no_order) m)) ++ ps) u
+  driven_more n promise s₀ s t x mark obeyed whole ps u rest =
+      let o = get_or os i no_order in
+      let here = step s t u o x (drop (i + 1) os₀) ps obeyed rest in
+      let a : o ∷ drop (i + 1) os₀ ≡ drop i os₀ = ap (λ y. y ∷ drop (i + 1) os₀) order_same ∙ sym (drop_more os₀ i no_order lt₀) in
+      let b : marked o (mark_of x) ∷ ps ≡ marked o m ∷ ps = ap (λ k. marked o k ∷ ps) (sym mark) in
+      let first = subst (λ y. Driven n promise s y (marked o m ∷ ps) u) a (subst (λ y. Driven n promise s (o ∷ drop (i + 1) os₀) y u) b here) in
+      rw (take_more_set, append_assoc) (whole (marked o m ∷ ps) u first)
 
   pub driven_here : (n : Setup) (promise : ℕ) (s t : State) (x : Option Refusal) (amounts : List ℕ) → m ≡ mark_of x →
       ObeyedBy n promise s (get_or os i no_order).ask x amounts t → (ps : List Order) (later : List ℕ) (u : State) →

@@ -1,6 +1,6 @@
 // The unit of a slot, in place.
 ghost use Rattle.std.specs.Prelude.{◌≡◌, ◌<◌, ◌≤◌};
-ghost use Rattle.model.specs.Slots.{runs, longer as longer-of, activity_of};
+ghost use Rattle.model.specs.Slots.{runs, longer as longer_of, activity_of};
 ghost use Rattle.node.specs.Turns.{job_said, turn_said, progress_of, Workable, worked_state};
 
 use crate::turn::{Job, Turn};
@@ -9,7 +9,7 @@ use model::state::{Line, State};
 
 // The longer of a task's longest response and another one.
 fn longer(longest: Option<u32>, response: u32) -> Option<u32>
-    ensures { result ≡ longer-of longest response }
+    ensures { result ≡ longer_of longest response }
 {
     match longest {
         None => Some(response),

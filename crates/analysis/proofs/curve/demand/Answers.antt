@@ -15,18 +15,18 @@ nonzero_div-jobs c =
     omega (arith, law)
 
 -- what a turn reads is lawful, and what it adds is small
-turn-law : (c : goal.After-max-unit) → LawfulTask 8000000000 (get_or (take c.args.subject.now.index c.args.subject.now.tasks.now) c.loop-task.task-index no_task)
-turn-law c = urgent_lawful c.args.subject.now c.loop-task.task-index c.loop-task-test.true
+turn_law : (c : goal.After-max-unit) → LawfulTask 8000000000 (get_or (take c.args.subject.now.index c.args.subject.now.tasks.now) c.loop-task.task-index no_task)
+turn_law c = urgent_lawful c.args.subject.now c.loop-task.task-index c.loop-task-test.true
 
-turn-unit : (c : goal.After-max-unit) → c.max-unit.result ≤ 8000000000
-turn-unit c = omega (arith, (turn-law c).2, c.max-unit.ensures, c.ranges.least.fits)
+turn_unit : (c : goal.After-max-unit) → c.max-unit.result ≤ 8000000000
+turn_unit c = omega (arith, (turn_law c).2, c.max-unit.ensures, c.ranges.least.fits)
 
 turn_small : (c : goal.After-max-unit) → (let t = get_or (take c.args.subject.now.index c.args.subject.now.tasks.now) c.loop-task.task-index no_task in
     job_count t c.args.window * (t.units * c.max-unit.result) ≤ 400000000000000000)
-turn_small c = jobs_small _ c.args.window c.max-unit.result (turn-law c) c.requires.1 (turn-unit c)
+turn_small c = jobs_small _ c.args.window c.max-unit.result (turn_law c) c.requires.1 (turn_unit c)
 
 pub overflow_mul-energy : goal.overflow_mul-energy
-overflow_mul-energy c = omega (arith, own_small _ c.max-unit.result (turn-law c) (turn-unit c))
+overflow_mul-energy c = omega (arith, own_small _ c.max-unit.result (turn_law c) (turn_unit c))
 
 pub overflow_mul-energy-in-loop-task : goal.overflow_mul-energy-in-loop-task
 overflow_mul-energy-in-loop-task c = omega (arith, turn_small c)
@@ -47,26 +47,26 @@ loop-task-preserved c =
       slot_turn_adds ts c.args.subject.now.index i w t c.loop-task.slots _ below c.args.subject.now.within.0 same c.loop-task.invariant.0,
       turn_adds (safe_weight c.args.least) ts c.args.subject.now.index i w t c.loop-task.energy c.max-unit.result _
           below c.args.subject.now.within.0 same c.max-unit.ensures c.loop-task.invariant.1,
-      omega (arith, slots_small t w (turn-law c) c.requires.1, c.loop-task.invariant.2),
+      omega (arith, slots_small t w (turn_law c) c.requires.1, c.loop-task.invariant.2),
       omega (arith, turn_small c, c.loop-task.invariant.3),
     )
 
 -- the same of the task's own job
-own-law : (c : goal.After-max-unit-2) → LawfulTask 8000000000 (get_or c.args.subject.now.tasks.now c.args.subject.now.index no_task)
-own-law c = own_lawful c.args.subject.now
+own_law : (c : goal.After-max-unit-2) → LawfulTask 8000000000 (get_or c.args.subject.now.tasks.now c.args.subject.now.index no_task)
+own_law c = own_lawful c.args.subject.now
 
-own-unit : (c : goal.After-max-unit-2) → c.max-unit-2.result ≤ 8000000000
-own-unit c = omega (arith, (own-law c).2, c.max-unit-2.ensures, c.ranges.least.fits)
+own_unit : (c : goal.After-max-unit-2) → c.max-unit-2.result ≤ 8000000000
+own_unit c = omega (arith, (own_law c).2, c.max-unit-2.ensures, c.ranges.least.fits)
 
-own-sum-small : (c : goal.After-max-unit-2) →
+own_sum_small : (c : goal.After-max-unit-2) →
     c.loop-task.energy + (get_or c.args.subject.now.tasks.now c.args.subject.now.index no_task).units * c.max-unit-2.result ≤ 6000004000000000000
-own-sum-small c =
-    let own = own_small _ c.max-unit-2.result (own-law c) (own-unit c) in
+own_sum_small c =
+    let own = own_small _ c.max-unit-2.result (own_law c) (own_unit c) in
     let few = length-take c.args.subject.now.index c.args.subject.now.tasks.now in
     omega (arith, c.loop-task.invariant.3, c.args.subject.now.within.1, c.loop-task.auto.task-index-end)
 
 pub overflow_add-result-2 : goal.overflow_add-result-2
-overflow_add-result-2 c = omega (arith, own-sum-small c)
+overflow_add-result-2 c = omega (arith, own_sum_small c)
 
 pub returns : goal.returns
 returns c =
@@ -79,5 +79,5 @@ returns c =
       energy =
           own_adds (safe_weight c.args.least) ts c.args.subject.now.index i c.args.window c.loop-task.energy c.max-unit-2.result _
           done c.args.subject.now.within.0 c.max-unit-2.ensures c.loop-task.invariant.1;
-      small = own-sum-small c;
+      small = own_sum_small c;
     }

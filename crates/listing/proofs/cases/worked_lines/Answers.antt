@@ -12,17 +12,17 @@ hundred = decimal_step 100 (lit≤ tt) (lit< tt) ∙ ap (λ front. front ++ code
 thousand : decimal 1000 ≡ codes "1000"
 thousand = decimal_step 1000 (lit≤ tt) (lit< tt) ∙ ap (λ front. front ++ codes "0") hundred
 
-ten-thousand : decimal 10000 ≡ codes "10000"
-ten-thousand = decimal_step 10000 (lit≤ tt) (lit< tt) ∙ ap (λ front. front ++ codes "0") thousand
+ten_thousand : decimal 10000 ≡ codes "10000"
+ten_thousand = decimal_step 10000 (lit≤ tt) (lit< tt) ∙ ap (λ front. front ++ codes "0") thousand
 
-hundred-thousand : decimal 100000 ≡ codes "100000"
-hundred-thousand = decimal_step 100000 (lit≤ tt) (lit< tt) ∙ ap (λ front. front ++ codes "0") ten-thousand
+hundred_thousand : decimal 100000 ≡ codes "100000"
+hundred_thousand = decimal_step 100000 (lit≤ tt) (lit< tt) ∙ ap (λ front. front ++ codes "0") ten_thousand
 
 pub returns : goal.returns
 returns c = record {
   all_bounds = rw (decimal_digit 1 (lit< tt), decimal_digit 4 (lit< tt), decimal_digit 2 (lit< tt));
   no_safe_bound = rw (decimal_digit 5 (lit< tt), decimal_digit 7 (lit< tt), decimal_digit 4 (lit< tt));
-  no_bounds = rw hundred-thousand;
+  no_bounds = rw hundred_thousand;
   verdicts = (refl, refl);
   refused_at_0 = rw (decimal_digit 4 (lit< tt), decimal_digit 0 (lit< tt));
   refused_at_1000 = rw (ten, thousand);

@@ -5,12 +5,12 @@ use Rattle.std.proofs.lemmas.List.{drop-set}
 use Rattle.listing.proofs.digits.to_digits.Goals as goal
 
 -- a number of two digits or more is one digit longer than its tenth
-one-digit-longer : (n : ℕ) → 10 ≤ n → n < 2 ^ 64 → length (decimal n) ≡ length (decimal (n / 10)) + 1
-one-digit-longer n h k = rw (decimal_step n h k, length-append)
+one_digit_longer : (n : ℕ) → 10 ≤ n → n < 2 ^ 64 → length (decimal n) ≡ length (decimal (n / 10)) + 1
+one_digit_longer n h k = rw (decimal_step n h k, length-append)
 
 -- a byte is written before the place s
-one-byte-before : (s : ℕ) (xs : List ℕ) (v : ℕ) → 0 < s → s ≤ length xs → drop (s - 1) (set xs (s - 1) v) ≡ v ∷ drop s xs
-one-byte-before s xs v p h =
+one_byte_before : (s : ℕ) (xs : List ℕ) (v : ℕ) → 0 < s → s ≤ length xs → drop (s - 1) (set xs (s - 1) v) ≡ v ∷ drop s xs
+one_byte_before s xs v p h =
     let i : s - 1 < length xs = omega arith in
     let q : s - 1 + 1 ≡ s = omega arith in
     drop-set xs (s - 1) v i ∙ ap (λ k. v ∷ drop k xs) q
@@ -21,10 +21,10 @@ module _ (d : List ℕ) (n s : ℕ) (xs : List ℕ) (some : 0 < s) (within : s �
   same_digits big fit =
       let v = 48 + n % 10 in
       e ∙ (ap (λ t. t ++ drop s xs) (decimal_step n big fit)
-      ∙ (append_assoc (decimal (n / 10)) (v ∷ []) (drop s xs) ∙ ap (λ t. decimal (n / 10) ++ t) (sym (one-byte-before s xs v some within))))
+      ∙ (append_assoc (decimal (n / 10)) (v ∷ []) (drop s xs) ∙ ap (λ t. decimal (n / 10) ++ t) (sym (one_byte_before s xs v some within))))
 
   all_digits : n < 10 → drop (s - 1) (set xs (s - 1) (48 + n)) ≡ d
-  all_digits small = one-byte-before s xs (48 + n) some within ∙ sym (e ∙ ap (λ t. t ++ drop s xs) (decimal_digit n small))
+  all_digits small = one_byte_before s xs (48 + n) some within ∙ sym (e ∙ ap (λ t. t ++ drop s xs) (decimal_digit n small))
 
 pub loop-rest-init : goal.loop-rest-init
 loop-rest-init c =
@@ -45,7 +45,7 @@ loop-rest-preserved c =
     let big : 10 ≤ n = omega arith in
     let fit : n < 2 ^ 64 = c.loop-rest.invariant.4 in
     let some = decimal_nonempty n fit in
-    let longer = one-digit-longer n big fit in
+    let longer = one_digit_longer n big fit in
     let h : s ≤ length xs = omega (arith, c.loop-rest.invariant.2, c.loop-rest.invariant.3) in
     let p : 0 < s = omega (arith, some, c.loop-rest.invariant.1) in (
       same_digits (decimal c.args.n) n s xs p h c.loop-rest.invariant.0 big fit,

@@ -16,11 +16,11 @@ use Rattle.node.proofs.release.release_into.Goals as goal
 -- a job outside the limits of a task that exists is refused, and changes nothing
 module _ (n : Setup) (s : State) (task index units draw : ℕ) (number : task ≡ suc index) (listed : index < length n.tasks)
     (outside : job_fits (get_or n.tasks index no_task) units draw ≡ false) where
-  refused-outside : Some OutsideTask ≡ release_refusal n s task units draw
-  refused-outside = let b : ltb index (length n.tasks) ≡ true = lt-ltb _ _ listed in rw (number, b, outside)
+  refused_outside : Some OutsideTask ≡ release_refusal n s task units draw
+  refused_outside = let b : ltb index (length n.tasks) ≡ true = lt-ltb _ _ listed in rw (number, b, outside)
 
-  kept-outside : s ≡ release_step n s task units draw
-  kept-outside = let b : ltb index (length n.tasks) ≡ true = lt-ltb _ _ listed in rw (number, b, outside)
+  kept_outside : s ≡ release_step n s task units draw
+  kept_outside = let b : ltb index (length n.tasks) ≡ true = lt-ltb _ _ listed in rw (number, b, outside)
 
 pub returns-then-not-is_within : goal.returns-then-not-is_within
 returns-then-not-is_within c =
@@ -35,8 +35,8 @@ returns-then-not-is_within c =
     let outside : job_fits (get_or n.tasks index no_task) units draw ≡ false =
     ap (λ (x : List Task). job_fits (get_or x index no_task) units draw) (sym tasks) ∙ sym c.if-not-is_within.ensures in
     record {
-      refusal = refused-outside n s _ index units draw number listed outside;
-      state = kept-outside n s _ index units draw number listed outside;
+      refusal = refused_outside n s _ index units draw number listed outside;
+      state = kept_outside n s _ index units draw number listed outside;
       ahead = c.requires.ahead;
     }
 

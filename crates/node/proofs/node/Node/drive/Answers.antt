@@ -54,12 +54,13 @@ returns g c =
     let none : drop c.each.order-index os₀ ≡ [] = drop_all _ os₀ (omega arith) in
     let whole = inv.5 [] [] c.each.self.state c.each.self.harvester (rw none (stop_by c.each.self.state)) refl in
     let d = rw (all, append-nil) at whole in
+    let told = drive_told _ _ d.1 in
     record {
-      driven = drive_told _ _ d.1;
+      driven = told;
       taking = d;
-      asks = driven_asks _ _ _ _ _ _ _ d.1;
+      asks = driven_asks _ _ _ _ _ _ told;
       count = inv.2 ∙ ap refusals all;
       table = inv.0;
       promise = inv.1;
-      paid = λ enough. driven_not_9 _ _ enough _ _ _ _ _ d.1;
+      paid = λ enough. driven_not_9 _ _ enough _ _ _ _ told;
     }

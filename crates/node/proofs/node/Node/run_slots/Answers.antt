@@ -1,12 +1,11 @@
 use Rattle.std.proofs.Common.{◌≡◌, ◌≤◌, [], ◌∷◌, length, sym, refl, ap, ◌∙◌, subst, arith}
 use Rattle.model.specs.Energy.{Harvest}
 use Rattle.model.specs.Slots.{slot_step}
-use Rattle.model.specs.Orders.{Run}
 use Rattle.model.specs.Amounts.{RunBy, over_by, next_by}
 use Rattle.model.proofs.Forgetting.{run_told}
 use Rattle.model.proofs.Reaching.{within_clock}
 use Rattle.table.specs.Tables.{setup_of}
-use Rattle.node.proofs.Running.{enough_promised}
+use Rattle.node.proofs.Running.{enough_promised, run_at}
 use Rattle.node.proofs.node.Node.run_slots.Goals as goal
 
 pub step-requires : goal.step-requires
@@ -47,7 +46,7 @@ returns g c =
     let n = setup_of c.args.self.now.table in
     let promise = g.H.Harvester.promised c.args.self.now.harvester in
     record {
-      run = subst (λ k. Run n promise k c.args.self.now.state c.each.self.state) many (run_told n promise whole.1.1);
+      run = run_at n promise _ _ _ _ many (run_told n promise whole.1.1);
       taking = (whole.0, (many, whole.1.1), whole.2);
       table = inv.0;
       promise = inv.1;
