@@ -6,7 +6,8 @@ usage: python3 tools/respell.py [--list] [FOLDER]    FOLDER is the top of a chec
 A name with a dash that stands in specs/ or in a lemma file of proofs/, and is no import from the toolchain's library, is turned: job-count
 becomes job_count, and Least-window becomes LeastWindow. It is turned then in the code's clauses, in answers, in must-fail edits and in
 planted bugs too. Names of the toolchain's library, of generated goals and of local variables in answers stay. Code, strings and plain
-English stay too: in comments a word is turned only if it is no English word of WORDS. --list prints what would change, and after TOGETHER what falls together, also with a module or a function.
+English stay too: in comments a word is turned only if it is no English word of WORDS. --list prints what would change, and marks by TOGETHER
+what falls together, also with a module or a function.
 """
 
 import os

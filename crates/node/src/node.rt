@@ -1,21 +1,21 @@
 // The node, whose type says that its state was reached by a history of its table.
-ghost use Rattle.std.specs.Prelude.{◌≡◌, ◌≤◌, Ok, Err, ◌<◌, length, Some, None, ◌≢◌, ℕ, slice_index_or};
+ghost use Rattle.std.specs.Prelude.{◌≡◌, ℕ, ◌<◌, ◌≤◌, ◌≢◌, length, slice_index_or, Some, None, Ok, Err};
 ghost use Rattle.model.specs.declared.refusal.Refusal.TheVariants.{PromiseTooLow};
 ghost use Rattle.model.specs.Windows.{Accepted};
-ghost use Rattle.model.specs.Energy.{LawfulLevel, Harvest};
+ghost use Rattle.model.specs.Energy.{Harvest, LawfulLevel};
 ghost use Rattle.model.specs.Slots.{slot_step, slot_answer};
 ghost use Rattle.model.specs.Releases.{release_refusal, release_step};
-ghost use Rattle.model.specs.Orders.{report_of, slots_refusal, Run, Slotted, Obeyed, Driven};
+ghost use Rattle.model.specs.Orders.{slots_refusal, Run, Slotted, Obeyed, Driven, report_of};
+ghost use Rattle.model.specs.Amounts.{RunBy, SlottedBy, ObeyedBy, DrivenBy};
 ghost use Rattle.model.specs.Histories.{History, fresh};
 ghost use Rattle.model.specs.Refusals.{mark_of};
+ghost use Rattle.harvest.specs.Takes.{Taking};
 ghost use Rattle.table.specs.Tables.{setup_of, task_list};
+ghost use Rattle.node.specs.Ahead.{LooksAhead};
 ghost use Rattle.node.specs.Outcomes.{refusal_said};
 ghost use Rattle.node.specs.Starts.{IsNotStarted};
 ghost use Rattle.node.specs.Marks.{refusals, Unmarked, no_order};
-ghost use Rattle.node.specs.Ahead.{LooksAhead};
 ghost use Rattle.node.specs.Reports.{ResponsesWithin};
-ghost use Rattle.model.specs.Amounts.{RunBy, SlottedBy, ObeyedBy, DrivenBy};
-ghost use Rattle.harvest.specs.Takes.{Taking};
 
 use crate::advance::advance;
 use crate::ahead::Ahead;
