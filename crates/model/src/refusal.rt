@@ -2,38 +2,39 @@
 ghost use Rattle.std.specs.Prelude.{◌≡◌};
 ghost use Rattle.model.specs.Refusals.{number_of};
 
-#[derive(Clone, Copy)]
+// Each refusal has the number by which it is told.
+#[derive(Clone, Copy, Debug, PartialEq, Eq)]
 pub enum Refusal {
     // the record passes the end of the file
-    PastEnd,
+    PastEnd = 1,
     // a kind of record that does not exist
-    UnknownKind,
+    UnknownKind = 2,
     // a length that the record's kind does not have
-    WrongLength,
+    WrongLength = 3,
     // the first record is no node record, or a later one is
-    WrongPlace,
+    WrongPlace = 4,
     // a rate, floor, cap, units, period or deadline outside its limits
-    OutsideLimits,
+    OutsideLimits = 5,
     // a seventeenth task
-    TooManyTasks,
+    TooManyTasks = 6,
     // a name with a byte that is not graphic
-    WrongName,
+    WrongName = 7,
     // a unit's draw above the room between floor and cap
-    DrawAboveRoom,
+    DrawAboveRoom = 8,
     // the harvester promises less than the table's rate
-    PromiseTooLow,
+    PromiseTooLow = 9,
     // a start level outside floor to cap
-    LevelOutside,
+    LevelOutside = 10,
     // no task of that number
-    NoSuchTask,
+    NoSuchTask = 11,
     // a job's units or draw outside the task's
-    OutsideTask,
+    OutsideTask = 12,
     // the text does not fit the output
-    OutputTooShort,
+    OutputTooShort = 13,
     // a release less than a period after the task's last one
-    TooEarly,
+    TooEarly = 14,
     // the clock is at its end, or would pass it
-    ClockEnd,
+    ClockEnd = 15,
 }
 
 impl Refusal {
@@ -41,22 +42,6 @@ impl Refusal {
     pub fn number(self) -> u8
         ensures { result ≡ number_of self }
     {
-        match self {
-            Refusal::PastEnd => 1,
-            Refusal::UnknownKind => 2,
-            Refusal::WrongLength => 3,
-            Refusal::WrongPlace => 4,
-            Refusal::OutsideLimits => 5,
-            Refusal::TooManyTasks => 6,
-            Refusal::WrongName => 7,
-            Refusal::DrawAboveRoom => 8,
-            Refusal::PromiseTooLow => 9,
-            Refusal::LevelOutside => 10,
-            Refusal::NoSuchTask => 11,
-            Refusal::OutsideTask => 12,
-            Refusal::OutputTooShort => 13,
-            Refusal::TooEarly => 14,
-            Refusal::ClockEnd => 15,
-        }
+        self as u8
     }
 }

@@ -1,7 +1,7 @@
 // What a node holds besides its table and its harvester.
 
 // What a node knows of one task.
-#[derive(Clone, Copy)]
+#[derive(Clone, Copy, Debug, PartialEq, Eq)]
 pub enum Line {
     // no job was ever released
     Never,
@@ -11,7 +11,7 @@ pub enum Line {
     Open { released: u32, left: u16, draw: u64 },
 }
 
-#[derive(Clone, Copy)]
+#[derive(Clone, Copy, Debug, PartialEq, Eq)]
 pub struct State {
     // slots already run
     pub clock: u32,
