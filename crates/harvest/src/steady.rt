@@ -1,6 +1,7 @@
 // The same amount in every slot.
 ghost use Rattle.std.specs.Prelude.{◌≡◌, ◌≤◌};
 ghost use Rattle.harvest.specs.Samples.{cut};
+ghost use Rattle.std.proofs.Common.{rules};
 
 use crate::harvester::{CEILING, Harvester};
 
@@ -27,6 +28,8 @@ impl Harvester for Steady {
     ghost coming = { λ s. s.amount };
 
     ghost taken = { λ s t. t.amount ≡ s.amount };
+
+    ghost lawful = { λ s. Prim.search (rules, s.limited) };
 
     fn promise(&self) -> u32 {
         self.amount

@@ -2,6 +2,7 @@
 ghost use Rattle.std.specs.Prelude.{◌≡◌, ◌-◌, ◌≤◌, length};
 ghost use Rattle.model.specs.Energy.{Harvest};
 ghost use Rattle.harvest.specs.Samples.{least, sample, next_index};
+ghost use Rattle.harvest.specs.Laws.{least_law};
 
 use crate::harvester::{CEILING, Harvester};
 
@@ -49,6 +50,8 @@ impl Harvester for Trace<'_> {
 
     ghost taken = { λ s t. (t.samples.now ≡ s.samples.now) × (t.index ≡ next_index s.samples.now s.index) };
 
+    ghost lawful = { λ s. least_law s.samples.now s.index s.inside };
+
     fn promise(&self) -> u32 {
         self.low
     }
@@ -57,8 +60,6 @@ impl Harvester for Trace<'_> {
         ensures amount { result ≡ sample self.old.samples.now self.old.index }
         ensures once { (self.new.samples.now ≡ self.old.samples.now) × (self.new.index ≡ next_index self.old.samples.now self.old.index) }
         ensures same { least self.new.samples.now ≡ least self.old.samples.now }
-        ensures law { Harvest (least self.old.samples.now) (sample self.old.samples.now self.old.index) }
-        ensures after { Harvest (least self.new.samples.now) (sample self.new.samples.now self.new.index) }
         ensures samples { self.new.samples.now ≡ self.old.samples.now }
         ensures next { self.new.index ≡ next_index self.old.samples.now self.old.index }
     {

@@ -1,7 +1,7 @@
 use Rattle.std.proofs.Common.{◌≡◌, ◌-◌, ◌≤◌, length, sym, refl, ◌∙◌, subst, arith, rules}
 use Rattle.std.proofs.lemmas.Bool.Decides.{nat_tests}
 use Rattle.harvest.specs.Samples.{next_index}
-use Rattle.harvest.proofs.Amounts.{least_law, next_inside, no_samples}
+use Rattle.harvest.proofs.Amounts.{next_inside, no_samples}
 use Rattle.harvest.proofs.trace.TraceHarvester.take.Goals as goal
 use Rattle.harvest.proofs.trace.TraceHarvester.take.Goals.{then-at-count, else-at-count}
 
@@ -11,8 +11,7 @@ returns-then-count-eq0 c =
     let i = c.args.self.now.index in
     let none = no_samples xs i (omega arith) in
     let first : i ≡ 0 = omega (arith, c.args.self.now.inside) in
-    let law = least_law xs i c.args.self.now.inside in
-    record { amount = sym none.0; once = (refl, first ∙ sym none.1); same = refl; law = law; after = law; samples = refl; next = first ∙ sym none.1 }
+    record { amount = sym none.0; once = (refl, first ∙ sym none.1); same = refl; samples = refl; next = first ∙ sym none.1 }
 
 pub returns : goal.returns
 returns c =
@@ -27,8 +26,6 @@ returns c =
       amount = search rules;
       once = (search rules, next);
       same = search rules;
-      law = least_law xs i c.args.self.now.inside;
-      after = least_law xs _ (subst (λ k. k ≤ length xs - 1) (sym next) (next_inside xs i));
       samples = search rules;
       next = next;
     }
