@@ -1,17 +1,15 @@
--- Lists of samples, at the steps of a trace.
---   next_inside    the next sample is one of the list
-use Rattle.std.proofs.Common.{◌≡◌, ℕ, ◌-◌, ◌<◌, ◌≤◌, min, List, [], ◌∷◌, length, take, fold, refl, arith}
-use Rattle.std.proofs.lemmas.Bool.Decides.{nat_tests}
-use Rattle.std.proofs.lemmas.List.{take_all}
-use Rattle.harvest.specs.Samples.{least, sample, next_index}
+-- The least of a list of samples, as an iterator finds it.
+use Rattle.std.specs.List.{reduce}
+use Rattle.std.proofs.Common.{◌≡◌, ℕ, min, List, [], ◌∷◌, fold, unwrap_or, refl, arith}
+use Rattle.harvest.specs.Samples.{least}
 
-pub next_inside : (xs : List ℕ) (i : ℕ) → next_index xs i ≤ length xs - 1
-next_inside xs i = grind (arith, nat_tests)
+fold_cut : (k m : ℕ) (xs : List ℕ) → fold (λ a y. min a y) (min k m) xs ≡ min (fold min m xs) k
+fold_cut k m [] = omega arith
+fold_cut k m (x ∷ xs) =
+    let e : min (min k m) x ≡ min k (min m x) = omega arith in
+    let h = fold_cut k (min m x) xs in
+    cc
 
-pub no_samples : (xs : List ℕ) (i : ℕ) → length xs ≡ 0 → (sample xs i ≡ 0) × (next_index xs i ≡ 0)
-no_samples [] i h = (refl, grind (arith, nat_tests))
-no_samples (x ∷ xs) i h = absurd (omega arith)
-
-pub least_whole : (xs : List ℕ) (n : ℕ) → 0 < length xs → length xs ≤ n → fold (λ a y. min a y) 1000000000 (take n xs) ≡ least xs
-least_whole [] n p h = omega arith
-least_whole (x ∷ xs) n p h = rw take_all
+pub least_reduced : (xs : List ℕ) → least xs ≡ min (unwrap_or (reduce min xs) 0) 1000000000
+least_reduced [] = refl
+least_reduced (x ∷ xs) = fold_cut 1000000000 x xs

@@ -7,7 +7,7 @@ use crate::harvester::Harvester;
 use crate::steady::Steady;
 
 // Lets a number of 256ths through, rounded down.
-#[derive(Drop)]
+#[derive(Debug, Drop, PartialEq, Eq)]
 pub struct Converter<H> {
     inner: H,
     factor: u16,
@@ -49,7 +49,7 @@ fn scale(amount: u32, factor: u16) -> u32
     requires { factor ≤ 256 }
     ensures { result ≡ scaled amount factor }
 {
-    (amount as u64 * factor as u64 / 256) as u32
+    (u64::from(amount) * u64::from(factor) / 256) as u32
 }
 
 // Half of a steady 15 is 7.

@@ -6,7 +6,7 @@ ghost use Rattle.harvest.specs.Laws.{joint_law};
 use crate::harvester::{CEILING, Harvester};
 
 // Takes from both; the sum is cut at the ceiling.
-#[derive(Drop)]
+#[derive(Clone, Debug, Drop, PartialEq, Eq)]
 pub struct Pair<P, Q> {
     first: P,
     second: Q,

@@ -1,14 +1,15 @@
 // The same amount in every slot.
 ghost use Rattle.std.specs.Prelude.{◌≡◌, ◌≤◌};
 ghost use Rattle.harvest.specs.Samples.{cut};
+ghost use Rattle.harvest.specs.declared.harvester.TheConstants.{CEILING};
 ghost use Rattle.std.proofs.Common.{rules};
 
 use crate::harvester::{CEILING, Harvester};
 
-#[derive(Clone, Copy)]
+#[derive(Clone, Copy, Debug, PartialEq, Eq)]
 pub struct Steady {
     amount: u32,
-    ghost limited: { amount ≤ 1000000000 },
+    ghost limited: { amount ≤ CEILING },
 }
 
 impl Steady {

