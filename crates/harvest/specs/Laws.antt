@@ -2,7 +2,7 @@
 --   scaled_law     what a converter lets through keeps the law of a harvester
 --   joint_law      so do two harvesters together
 --   least_law      and the samples of a list
-use Rattle.std.specs.Prelude.{◌≡◌, ℕ, ◌-◌, ◌<◌, ◌≤◌, min, List, [], ◌∷◌, length, get_or, fold}
+use Rattle.std.specs.Prelude.{ℕ, ◌-◌, ◌<◌, ◌≤◌, min, List, [], ◌∷◌, length, get_or, fold}
 use Rattle.std.proofs.Common.{zero, suc, mul-le-mul_right, mul-le-mul_left, arith}
 use Rattle.model.specs.Energy.{Harvest, scaled}
 use Rattle.harvest.specs.Samples.{least, sample, joint}

@@ -2,6 +2,7 @@
 #![tactic(auto)]
 
 pub mod cases;
+pub mod choice;
 pub mod converter;
 pub mod harvester;
 pub mod pair;
