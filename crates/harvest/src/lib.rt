@@ -1,4 +1,4 @@
-// What brings energy to a node: a steady source, recorded samples, a converter, and two at once.
+// What brings energy to a node: a steady source, recorded samples, a converter, two at once, and either of two.
 #![tactic(auto)]
 
 pub mod cases;
