@@ -1,43 +1,43 @@
 -- From what the reader said to the step of the file that a load goes by.
-use Rattle.std.proofs.Common.{◌≡◌, ℕ, List, Some, None, Ok, Option, sym, ap, ◌∙◌, subst}
+use Rattle.std.proofs.Common.{◌≡◌, ℕ, List, Some, None, Ok, Err, Option, Result, MatchResult, Bor, sym, refl, ap, ◌∙◌, subst}
+use Rattle.std.specs.Result.{IsErrAnd}
+use Rattle.model.specs.declared.task.Task.{Task}
+use Rattle.model.specs.declared.refusal.Refusal.TheVariants.{WrongPlace}
 use Rattle.table.specs.declared.read.Placed.{Placed}
 use Rattle.table.specs.declared.read.Record.{Record}
-use Rattle.table.specs.declared.read.Record.TheVariants.{Node}
-use Rattle.table.specs.Contents.{Contents, bare}
-use Rattle.table.specs.Limits.{LawfulNode}
-use Rattle.table.specs.Loading.{Loaded, Tasks, Loads, begins}
+use Rattle.table.specs.declared.read.Record.TheVariants as records
+use Rattle.table.specs.Contents.{Contents}
+use Rattle.table.specs.Loading.{Loaded, Tasks, Loads, refused, headless}
 use Rattle.table.specs.Means.{step_said, entry_of}
 use Rattle.table.specs.Reading.{Step, step_at, end, got}
 
--- The reader's file is the caller's.
-pub step_seen : {f g : List ℕ} {s : Step} (at : ℕ) → s ≡ step_at f at → f ≡ g → step_at g at ≡ s
-step_seen at e h = sym (e ∙ ap (λ x. step_at x at) h)
+pub end_seen : (f : List ℕ) (at to : ℕ) {o : Option Placed} → step_said (Ok o) to ≡ step_at f at → o ≡ None → step_at f at ≡ end
+end_seen f at to e i = sym e ∙ ap (λ x. step_said (Ok x) to) i
 
--- The same where the answer has been taken apart: nothing is left.
-pub end_seen : {f g : List ℕ} {o : Option Placed} (at to : ℕ) → step_said (Ok o) to ≡ step_at f at → o ≡ None → f ≡ g → step_at g at ≡ end
-end_seen at to e i h = step_seen at (ap (λ x. step_said (Ok x) to) (sym i) ∙ e) h
+pub record_seen : (f : List ℕ) (at to : ℕ) {o : Option Placed} {p : Placed} {r : Record} → step_said (Ok o) to ≡ step_at f at →
+    o ≡ Some p → p.«record» ≡ r → step_at f at ≡ got (entry_of r) p.at to
+record_seen f at to {p = p} e i k = sym e ∙ ap (λ x. step_said (Ok x) to) i ∙ ap (λ x. got (entry_of x) p.at to) k
 
--- And where the record has been taken apart too.
-pub record_seen : {f g : List ℕ} {o : Option Placed} {p : Placed} {r : Record} (at to : ℕ) → step_said (Ok o) to ≡ step_at f at →
-    o ≡ Some p → p.«record» ≡ r → f ≡ g → step_at g at ≡ got (entry_of r) p.at to
-record_seen {p = p} at to e i k h =
-    step_seen at (ap (λ x. step_said (Ok x) to) (sym i) ∙ e) h ∙ ap (λ x. got (entry_of x) p.at to) k
+-- A new reader stands at the front of the caller's file.
+pub at_front : {f g : List ℕ} {s : Step} {at : ℕ} → s ≡ step_at f at → f ≡ g → at ≡ 0 → s ≡ step_at g 0
+at_front {g = g} {at = at} e h z = e ∙ ap (λ x. step_at x at) h ∙ ap (step_at g) z
 
--- The same three at the front of the file, where a new reader stands.
-pub at_front : {f g : List ℕ} {s : Step} {at : ℕ} → s ≡ step_at f at → f ≡ g → at ≡ 0 → step_at g 0 ≡ s
-at_front {g = g} {at = at} e h z = ap (step_at g) (sym z) ∙ step_seen at e h
+-- A task's record at the front is in the wrong place.
+pub headless_seen : (f : List ℕ) (to : ℕ) {o : Option Placed} {p : Placed} {t : Task} {name : Bor (List ℕ)} → step_said (Ok o) to ≡ step_at f 0 →
+    o ≡ Some p → p.«record» ≡ records.Task t name → Loads f (refused WrongPlace 0)
+headless_seen f to e i k = headless _ _ _ _ (record_seen f 0 to e i k)
 
-pub end_at_front : {f g : List ℕ} {o : Option Placed} {at : ℕ} (to : ℕ) → step_said (Ok o) to ≡ step_at f at → o ≡ None → f ≡ g → at ≡ 0 → step_at g 0 ≡ end
-end_at_front {g = g} {at = at} to e i h z = ap (step_at g) (sym z) ∙ end_seen at to e i h
+-- What the tasks from a place on give is told of the same file and contents under other names.
+pub tasks_of : {f g : List ℕ} {at : ℕ} {c d : Contents} {res : Loaded} → f ≡ g → c ≡ d → Tasks f at c res → Tasks g at d res
+tasks_of {f = f} {at = at} {d = d} {res = res} h e go = subst (λ x. Tasks x at d res) h (subst (λ x. Tasks f at x res) e go)
 
-pub record_at_front : {f g : List ℕ} {o : Option Placed} {p : Placed} {r : Record} {at : ℕ} (to : ℕ) → step_said (Ok o) to ≡ step_at f at →
-    o ≡ Some p → p.«record» ≡ r → f ≡ g → at ≡ 0 → step_at g 0 ≡ got (entry_of r) p.at to
-record_at_front {g = g} {at = at} to e i k h z = ap (step_at g) (sym z) ∙ record_seen at to e i k h
+-- What `map_err` was given, by what it gives.
+pub mapped_ok : {T E D : Type 0} (P : E → D → Type 0) (self : Result T E) {r : Result T D} (x : T) →
+    MatchResult self (λ x. r ≡ Ok x) (λ e. IsErrAnd r (P e)) → r ≡ Ok x → self ≡ Ok x
+mapped_ok P (Ok y) x h e = cc
+mapped_ok P (Err y) x h e = absurd (rw e at h)
 
--- A load that begins with a lawful node goes on from what the reader holds.
-pub begins_at_front : {f g h : List ℕ} {o : Option Placed} {p : Placed} {rate floor top at to : ℕ} {c : Contents} {res : Loaded} →
-    step_said (Ok o) to ≡ step_at f at → o ≡ Some p → p.«record» ≡ Node rate floor top → f ≡ g → at ≡ 0 →
-    LawfulNode rate floor top → c ≡ bare rate floor top → h ≡ f → Tasks h to c res → Loads g res
-begins_at_front {h = h} {p = p} {rate = rate} {floor = floor} {top = top} {to = to} {res = res} e i k same z law start kept go =
-    begins rate floor top p.at to res (record_at_front to e i k same z) law
-    (subst (λ x. Tasks x to (bare rate floor top) res) (kept ∙ same) (subst (λ x. Tasks h to x res) start go))
+pub mapped_err : {T E D : Type 0} (P : E → D → Type 0) (self : Result T E) {r : Result T D} (d : D) →
+    MatchResult self (λ x. r ≡ Ok x) (λ e. IsErrAnd r (P e)) → r ≡ Err d → (e : E) × (self ≡ Err e) × P e d
+mapped_err P (Ok y) d h e = absurd (cc)
+mapped_err P (Err y) d h e = (y, refl, rw e at h)

@@ -1,6 +1,7 @@
 pub mod Bytes
 pub mod Layout
 pub mod Reading
+pub mod Kinds
 pub mod Means
 pub mod Names
 pub mod Contents

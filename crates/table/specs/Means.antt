@@ -1,5 +1,7 @@
 -- What the reader's answers say, as steps.
 use Rattle.std.specs.Prelude.{ℕ, ◌+◌, Some, None, Ok, Err, Option, Result}
+use Rattle.model.specs.declared.refusal.Refusal.{Refusal}
+use Rattle.model.specs.declared.refusal.Refusal.TheVariants.{WrongLength}
 use Rattle.table.specs.declared.fault.LoadFault.{LoadFault}
 use Rattle.table.specs.declared.read.Record.{Record}
 use Rattle.table.specs.declared.read.Record.TheVariants.{Node, Task}
@@ -17,12 +19,13 @@ step_said (Ok None) to = end
 step_said (Ok (Some p)) to = got (entry_of p.«record») p.at to
 step_said (Err f) to = bad f.refusal f.at
 
-abbrev pub body_said : Result Record LoadFault → ℕ → ℕ → Step
-body_said (Ok r) at to = got (entry_of r) at to
-body_said (Err f) at to = bad f.refusal f.at
+-- the record of a body, if it has a length of its kind
+abbrev pub body_said : Option Record → ℕ → ℕ → Step
+body_said (Some r) at to = got (entry_of r) at to
+body_said None at to = bad WrongLength at
 
 -- the record in front of what is left, told with its length
-abbrev pub part_said : Result (Option (Record × ℕ)) LoadFault → ℕ → Step
+abbrev pub part_said : Result (Option (Record × ℕ)) Refusal → ℕ → Step
 part_said (Ok None) at = end
 part_said (Ok (Some p)) at = got (entry_of p.0) at (at + p.1)
-part_said (Err f) at = bad f.refusal f.at
+part_said (Err r) at = bad r at

@@ -3,6 +3,7 @@
 
 pub mod cases;
 pub mod fault;
+pub mod kind;
 pub mod laws;
 pub mod load;
 pub mod name;

@@ -1,22 +1,24 @@
 // The reader: the records of a file, one after the other, each a part of the file with its place.
-ghost use Rattle.std.specs.Prelude.{◌≡◌, ℕ, ◌+◌, ◌<◌, ◌≤◌, length, drop, Some, None, Ok, Err, ◌≢◌};
+ghost use Rattle.std.specs.Prelude.{◌≡◌, ◌≢◌, ◌<◌, ◌≤◌, ℕ, length, drop, IfOk, IfSome, MatchOption, MatchResult};
 ghost use Rattle.table.specs.Bytes.{le2};
 ghost use Rattle.table.specs.Reading.{node_of, task_of, body_step, part_step, step_at};
+ghost use Rattle.table.specs.Kinds.{kind_number};
 ghost use Rattle.table.specs.Means.{entry_of, step_said, body_said, part_said};
 
 use crate::fault::LoadFault;
+use crate::kind::Kind;
 use model::refusal::Refusal;
 use model::task::Task;
 
 // A record of the file; a task's name is lent by the file.
-#[derive(Clone, Copy)]
+#[derive(Clone, Copy, Debug, PartialEq, Eq)]
 pub enum Record<'a> {
     Node { rate: u32, floor: u64, cap: u64 },
     Task { task: Task, name: &'a [u8] },
 }
 
 // A record with the byte where it starts.
-#[derive(Clone, Copy)]
+#[derive(Clone, Copy, Debug, PartialEq, Eq)]
 pub struct Placed<'a> {
     pub record: Record<'a>,
     pub at: usize,
@@ -31,157 +33,75 @@ struct Header<'a> {
 }
 
 fn read_header<'a>(left: &'a [u8]) -> Option<Header<'a>>
-    ensures { elim result [
-      | None ↦ length left.now < 4
-      | Some h ↦ (4 ≤ length left.now) × (h.len ≡ le2 left.now 0) × (h.kind ≡ le2 left.now 2) × (h.rest.now ≡ drop 4 left.now)
-    ] }
+    ensures { MatchOption result (length left.now < 4) (λ h. (4 ≤ length left.now) × (h.len ≡ le2 left.now 0) × (h.kind ≡ le2 left.now 2) × (h.rest.now ≡ drop 4 left.now)) }
 {
-    let [a, b, c, d, rest @ ..] = left else {
-        return None;
-    };
+    let (len, rest) = left.split_first_chunk()?;
+    let (kind, rest) = rest.split_first_chunk()?;
     Some(Header {
-        len: u16::from_le_bytes([*a, *b]),
-        kind: u16::from_le_bytes([*c, *d]),
+        len: u16::from_le_bytes(*len),
+        kind: u16::from_le_bytes(*kind),
         rest,
     })
 }
 
 fn read_node<'a>(body: &'a [u8]) -> Option<Record<'a>>
-    ensures { elim result [
-      | None ↦ (length body.now ≢ 20)
-      | Some n ↦ (length body.now ≡ 20) × (entry_of n ≡ node_of body.now)
-    ] }
+    ensures { MatchOption result (length body.now ≢ 20) (λ n. (length body.now ≡ 20) × (entry_of n ≡ node_of body.now)) }
 {
-    let [
-        r0,
-        r1,
-        r2,
-        r3,
-        f0,
-        f1,
-        f2,
-        f3,
-        f4,
-        f5,
-        f6,
-        f7,
-        c0,
-        c1,
-        c2,
-        c3,
-        c4,
-        c5,
-        c6,
-        c7,
-    ] = body
-    else {
-        return None;
-    };
+    let (rate, rest) = body.split_first_chunk()?;
+    let (floor, rest) = rest.split_first_chunk()?;
+    let cap = rest.as_array()?;
     Some(Record::Node {
-        rate: u32::from_le_bytes([*r0, *r1, *r2, *r3]),
-        floor: u64::from_le_bytes([*f0, *f1, *f2, *f3, *f4, *f5, *f6, *f7]),
-        cap: u64::from_le_bytes([*c0, *c1, *c2, *c3, *c4, *c5, *c6, *c7]),
+        rate: u32::from_le_bytes(*rate),
+        floor: u64::from_le_bytes(*floor),
+        cap: u64::from_le_bytes(*cap),
     })
 }
 
 fn read_task<'a>(body: &'a [u8]) -> Option<Record<'a>>
-    ensures { elim result [ None ↦ length body.now < 18 | Some t ↦ entry_of t ≡ task_of body.now ] }
+    ensures { MatchOption result (length body.now < 18) (λ t. entry_of t ≡ task_of body.now) }
 {
-    let [
-        c0,
-        c1,
-        t0,
-        t1,
-        t2,
-        t3,
-        d0,
-        d1,
-        d2,
-        d3,
-        p0,
-        p1,
-        p2,
-        p3,
-        p4,
-        p5,
-        p6,
-        p7,
-        name @ ..,
-    ] = body
-    else {
-        return None;
-    };
+    let (units, rest) = body.split_first_chunk()?;
+    let (period, rest) = rest.split_first_chunk()?;
+    let (deadline, rest) = rest.split_first_chunk()?;
+    let (draw, name) = rest.split_first_chunk()?;
     let task = Task {
-        units: u16::from_le_bytes([*c0, *c1]),
-        period: u32::from_le_bytes([*t0, *t1, *t2, *t3]),
-        deadline: u32::from_le_bytes([*d0, *d1, *d2, *d3]),
-        draw: u64::from_le_bytes([*p0, *p1, *p2, *p3, *p4, *p5, *p6, *p7]),
+        units: u16::from_le_bytes(*units),
+        period: u32::from_le_bytes(*period),
+        deadline: u32::from_le_bytes(*deadline),
+        draw: u64::from_le_bytes(*draw),
     };
     Some(Record::Task { task, name })
 }
 
-// The body of a record of a kind; the record starts at a byte of the file.
-fn read_body<'a>(kind: u16, body: &'a [u8], at: usize) -> Result<Record<'a>, LoadFault>
-    ensures { (to : ℕ) → body_said result at to ≡ body_step kind body.now at to }
+// The body of a record of a kind, unless it has a length that the kind does not have.
+fn read_body<'a>(kind: Kind, body: &'a [u8]) -> Option<Record<'a>>
+    ensures { (at to : ℕ) → body_said result at to ≡ body_step (kind_number kind) body.now at to }
 {
     match kind {
-        1 => match read_node(body) {
-            Some(node) => Ok(node),
-            None => Err(LoadFault {
-                refusal: Refusal::WrongLength,
-                at,
-            }),
-        },
-        2 => {
-            if body.len() < 19 || body.len() > 30 {
-                return Err(LoadFault {
-                    refusal: Refusal::WrongLength,
-                    at,
-                });
-            }
-            match read_task(body) {
-                Some(task) => Ok(task),
-                None => Err(LoadFault {
-                    refusal: Refusal::WrongLength,
-                    at,
-                }),
-            }
-        }
-        _ => Err(LoadFault {
-            refusal: Refusal::UnknownKind,
-            at,
-        }),
+        Kind::Node => read_node(body),
+        Kind::Task if (19..=30).contains(&body.len()) => read_task(body),
+        Kind::Task => None,
     }
 }
 
 // The record at the front of what is left, and its length; nothing where no byte is left.
-fn read_part<'a>(left: &'a [u8], at: usize) -> Result<Option<(Record<'a>, usize)>, LoadFault>
-    ensures said { part_said result at ≡ part_step left.now at }
-    ensures fits { elim result [ Err f ↦ Unit {0} | Ok o ↦ elim o [ None ↦ Unit {0} | Some p ↦ (4 ≤ p.1) × (p.1 ≤ length left.now) ] ] }
+fn read_part<'a>(left: &'a [u8]) -> Result<Option<(Record<'a>, usize)>, Refusal>
+    ensures said { (at : ℕ) → part_said result at ≡ part_step left.now at }
+    ensures fits { IfOk result (λ o. IfSome o (λ p. (4 ≤ p.1) × (p.1 ≤ length left.now))) }
 {
-    if left.len() == 0 {
+    if left.is_empty() {
         return Ok(None);
     }
-    let Some(header) = read_header(left) else {
-        return Err(LoadFault {
-            refusal: Refusal::PastEnd,
-            at,
-        });
-    };
-    let len = header.len as usize;
+    let header = read_header(left).ok_or(Refusal::PastEnd)?;
+    let len = usize::from(header.len);
     if len < 4 {
-        return Err(LoadFault {
-            refusal: Refusal::WrongLength,
-            at,
-        });
+        return Err(Refusal::WrongLength);
     }
     if left.len() < len {
-        return Err(LoadFault {
-            refusal: Refusal::PastEnd,
-            at,
-        });
+        return Err(Refusal::PastEnd);
     }
-    let record = read_body(header.kind, &header.rest[0..len - 4], at)?;
+    let kind = Kind::try_from(header.kind)?;
+    let record = read_body(kind, &header.rest[..len - 4]).ok_or(Refusal::WrongLength)?;
     Ok(Some((record, len)))
 }
 
@@ -206,18 +126,14 @@ impl<'a> Reader<'a> {
     pub fn next(&mut self) -> Result<Option<Placed<'a>>, LoadFault>
         ensures said { step_said result self.new.at ≡ step_at self.old.file.now self.old.at }
         ensures file { self.new.file.now ≡ self.old.file.now }
-        ensures place { elim result [
-          | Err f ↦ self.new.at ≡ self.old.at
-          | Ok o ↦ elim o [ None ↦ self.new.at ≡ self.old.at | Some p ↦ self.old.at < self.new.at ]
-        ] }
+        ensures place { MatchResult result (λ o. MatchOption o (self.new.at ≡ self.old.at) (λ _. self.old.at < self.new.at)) (λ _. self.new.at ≡ self.old.at) }
     {
         let at = self.at;
-        match read_part(&self.file[at..], at)? {
-            None => Ok(None),
-            Some((record, len)) => {
-                self.at = at + len;
-                Ok(Some(Placed { record, at }))
-            }
-        }
+        let part = read_part(&self.file[at..]).map_err(|refusal| LoadFault { refusal, at })?;
+        let Some((record, len)) = part else {
+            return Ok(None);
+        };
+        self.at += len;
+        Ok(Some(Placed { record, at }))
     }
 }
