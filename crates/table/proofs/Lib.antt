@@ -1,7 +1,6 @@
 mod Steps
 mod Rows
 pub mod Setups
-mod Letters
 mod Walks
 mod Checks
 pub mod Once

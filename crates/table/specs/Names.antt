@@ -3,6 +3,7 @@
 --   Short        a name has 1 to 12 bytes
 --   graphic      whether each byte of a name is a graphic one
 use Rattle.std.specs.Prelude.{◌≡◌, ℕ, ◌<◌, ◌≤◌, Bool, true, ◌&&◌, List, [], ◌∷◌, length, take, nat_le, slice_index_or}
+use Rattle.std.proofs.Common.{lit≤}
 use Rattle.table.specs.declared.name.Name.{Name}
 
 abbrev pub name_bytes : Name → List ℕ
@@ -10,7 +11,7 @@ name_bytes n = take n.len n.bytes
 
 -- what stands past the end of a list of names, as the code's own reads have it
 abbrev pub no_name : Name
-no_name = record { bytes = []; len = 0 }
+no_name = record { bytes = []; len = 0; within = lit≤ tt }
 
 abbrev pub Short : List ℕ → Type 0
 Short name = (1 ≤ length name) × (length name ≤ 12)

@@ -1,12 +1,12 @@
 // Making a table and reading what it holds; specs that name the table are cited here and not beside its type.
-ghost use Rattle.std.specs.Prelude.{◌≡◌, Ok, Err, Decides};
+ghost use Rattle.std.specs.Prelude.{◌≡◌, Decides, MatchResult};
 ghost use Rattle.model.specs.declared.refusal.Refusal.TheVariants.{OutsideLimits};
 ghost use Rattle.model.specs.Tasks.{Sized, Timed};
 ghost use Rattle.table.specs.Contents.{bare, extended};
 ghost use Rattle.table.specs.Limits.{Allowed, TurnedAway, LawfulNode};
 ghost use Rattle.table.specs.Tables.{contents_of};
 
-use crate::name::{Name, is_graphic};
+use crate::name::Name;
 use crate::table::Table;
 use model::refusal::Refusal;
 use model::task::Task;
@@ -14,8 +14,7 @@ use model::task::Task;
 fn in_limits(task: &Task) -> bool
     ensures { Decides result (Sized task.now × Timed task.now) }
 {
-    1 <= task.units
-        && task.units <= 500
+    (1..=500).contains(&task.units)
         && u32::from(task.units) <= task.deadline
         && task.deadline <= task.period
         && task.period <= 100_000
@@ -52,12 +51,9 @@ impl Table {
 
     // A table with no tasks, or a refusal of its numbers.
     pub fn new(rate: u32, floor: u64, cap: u64) -> Result<Table, Refusal>
-        ensures { elim result [
-          | Ok t ↦ LawfulNode rate floor cap × (contents_of t ≡ bare rate floor cap)
-          | Err e ↦ (LawfulNode rate floor cap → ⊥) × (e ≡ OutsideLimits)
-        ] }
+        ensures { MatchResult result (λ t. LawfulNode rate floor cap × (contents_of t ≡ bare rate floor cap)) (λ e. (LawfulNode rate floor cap → ⊥) × (e ≡ OutsideLimits)) }
     {
-        if rate < 1 || rate > 1_000_000_000 || floor > cap || cap > 8_000_000_000 {
+        if !(1..=1_000_000_000).contains(&rate) || floor > cap || cap > 8_000_000_000 {
             return Err(Refusal::OutsideLimits);
         }
         Ok(Table::without_tasks(rate, floor, cap))
@@ -65,12 +61,11 @@ impl Table {
 
     // The table with one task more, less urgent than the others, or a refusal of that task.
     pub fn with_task(self, task: Task, name: &[u8]) -> Result<Table, Refusal>
-        ensures { elim result [
-          | Ok t ↦ Allowed (contents_of self) task name.now × (contents_of t ≡ extended (contents_of self) task name.now)
-          | Err e ↦ TurnedAway (contents_of self) task name.now e
-        ] }
+        ensures { MatchResult result
+            (λ t. Allowed (contents_of self) task name.now × (contents_of t ≡ extended (contents_of self) task name.now))
+            (λ e. TurnedAway (contents_of self) task name.now e) }
     {
-        if name.len() < 1 || name.len() > 12 {
+        if !(1..=12).contains(&name.len()) {
             return Err(Refusal::WrongLength);
         }
         let at = self.count;
@@ -83,20 +78,13 @@ impl Table {
         if task.draw > self.cap - self.floor {
             return Err(Refusal::DrawAboveRoom);
         }
-        if !is_graphic(name) {
+        if !Name::is_graphic(name) {
             return Err(Refusal::WrongName);
         }
-        let mut tasks = self.tasks;
-        tasks[at] = task;
-        let mut names = self.names;
-        names[at] = Name::keep(name);
-        Ok(Table {
-            rate: self.rate,
-            floor: self.floor,
-            cap: self.cap,
-            tasks,
-            names,
-            count: at + 1,
-        })
+        let mut longer = self;
+        longer.tasks[at] = task;
+        longer.names[at] = Name::keep(name);
+        longer.count = at + 1;
+        Ok(longer)
     }
 }

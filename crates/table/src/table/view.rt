@@ -1,5 +1,5 @@
 // Reading what a table holds.
-ghost use Rattle.std.specs.Prelude.{◌≡◌, ◌<◌, ◌≤◌, [], length, Some, None, slice_index_or};
+ghost use Rattle.std.specs.Prelude.{◌≡◌, ◌<◌, ◌≤◌, [], length, map, slice_index_or, All, MatchOption};
 ghost use Rattle.model.specs.Tasks.{LawfulRate, LawfulStore, LawfulTasks};
 ghost use Rattle.table.specs.Names.{name_bytes, Short};
 ghost use Rattle.table.specs.Tables.{task_list, name_list, room_of};
@@ -38,20 +38,23 @@ impl Table {
         ensures value { result.now ≡ task_list self.now }
         ensures limits { LawfulTasks (room_of self.now) result.now }
     {
-        &self.tasks[0..self.count]
+        &self.tasks[..self.count]
+    }
+
+    // The names of the tasks, in the order of the tasks.
+    pub fn names(&self) -> &[Name]
+        ensures value { map name_bytes result.now ≡ name_list self.now }
+        ensures len { length result.now ≡ length (task_list self.now) }
+        ensures short { All (λ n. Short (name_bytes n)) result.now }
+    {
+        &self.names[..self.count]
     }
 
     // The name of the task at an index.
     pub fn name(&self, index: usize) -> Option<Name>
-        ensures { elim result [
-          | None ↦ length (task_list self.now) ≤ index
-          | Some n ↦ (index < length (name_list self.now)) × (name_bytes n ≡ slice_index_or (name_list self.now) index []) × Short (name_bytes n)
-        ] }
+        ensures { MatchOption result (length (task_list self.now) ≤ index) (λ n.
+            (index < length (name_list self.now)) × (name_bytes n ≡ slice_index_or (name_list self.now) index []) × Short (name_bytes n)) }
     {
-        if index < self.count {
-            Some(self.names[index])
-        } else {
-            None
-        }
+        self.names().get(index).copied()
     }
 }
