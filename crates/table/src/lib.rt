@@ -3,7 +3,7 @@
 
 pub mod cases;
 pub mod fault;
-pub mod kind;
+mod kind;
 pub mod laws;
 pub mod load;
 pub mod name;

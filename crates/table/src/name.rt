@@ -1,7 +1,7 @@
 // The name of a task, kept for listings.
 ghost use Rattle.std.specs.Prelude.{◌≡◌, ◌≤◌, length};
 
-// An ArrayVec of bytes is not Copy, and a table that holds names is.
+// Bytes and a length, since a name is Copy and allocates nothing; an ArrayVec is not Copy.
 #[derive(Clone, Copy)]
 pub struct Name {
     bytes: [u8; 12],

@@ -6,6 +6,7 @@ ghost use Rattle.table.specs.Names.{Short, Graphic, EachName};
 use crate::name::Name;
 use model::task::Task;
 
+// Two arrays and a count, since `tasks` lends the tasks as one slice, and a table is Copy and allocates nothing.
 #[derive(Clone, Copy)]
 pub struct Table {
     rate: u32,

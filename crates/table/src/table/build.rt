@@ -1,5 +1,5 @@
 // Making a table and reading what it holds; specs that name the table are cited here and not beside its type.
-ghost use Rattle.std.specs.Prelude.{◌≡◌, Decides, MatchResult};
+ghost use Rattle.std.specs.Prelude.{◌≡◌, ◌↔◌, IsTrue, MatchResult};
 ghost use Rattle.model.specs.declared.refusal.Refusal.TheVariants.{OutsideLimits};
 ghost use Rattle.model.specs.Tasks.{Sized, Timed};
 ghost use Rattle.table.specs.Contents.{bare, extended};
@@ -12,7 +12,7 @@ use model::refusal::Refusal;
 use model::task::Task;
 
 fn in_limits(task: &Task) -> bool
-    ensures { Decides result (Sized task.now × Timed task.now) }
+    ensures { IsTrue result ↔ (Sized task.now × Timed task.now) }
 {
     (1..=500).contains(&task.units)
         && u32::from(task.units) <= task.deadline
@@ -21,32 +21,11 @@ fn in_limits(task: &Task) -> bool
 }
 
 impl Table {
-    // A table of lawful numbers with no tasks.
-    fn without_tasks(rate: u32, floor: u64, cap: u64) -> Table
-        requires { LawfulNode rate floor cap }
-        ensures { contents_of result ≡ bare rate floor cap }
-    {
-        let none = Task {
-            units: 0,
-            period: 0,
-            deadline: 0,
-            draw: 0,
-        };
-        Table {
-            rate,
-            floor,
-            cap,
-            tasks: [none; 16],
-            names: [Name::NONE; 16],
-            count: 0,
-        }
-    }
-
     // The least table that there is, for a caller that lends one to be filled.
     pub fn empty() -> Table
         ensures { contents_of result ≡ bare 1 0 0 }
     {
-        Table::without_tasks(1, 0, 0)
+        Table::new(1, 0, 0).unwrap()
     }
 
     // A table with no tasks, or a refusal of its numbers.
@@ -56,7 +35,20 @@ impl Table {
         if !(1..=1_000_000_000).contains(&rate) || floor > cap || cap > 8_000_000_000 {
             return Err(Refusal::OutsideLimits);
         }
-        Ok(Table::without_tasks(rate, floor, cap))
+        let none = Task {
+            units: 0,
+            period: 0,
+            deadline: 0,
+            draw: 0,
+        };
+        Ok(Table {
+            rate,
+            floor,
+            cap,
+            tasks: [none; 16],
+            names: [Name::NONE; 16],
+            count: 0,
+        })
     }
 
     // The table with one task more, less urgent than the others, or a refusal of that task.
