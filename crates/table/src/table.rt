@@ -7,7 +7,7 @@ use crate::name::Name;
 use model::task::Task;
 
 // Two arrays and a count, since `tasks` lends the tasks as one slice, and a table is Copy and allocates nothing.
-#[derive(Clone, Copy)]
+#[derive(Clone, Copy, Debug, PartialEq, Eq)]
 pub struct Table {
     rate: u32,
     floor: u64,
