@@ -1,5 +1,4 @@
 mod Steps
-mod Rows
 pub mod Setups
 mod Walks
 mod Checks

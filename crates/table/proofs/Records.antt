@@ -10,10 +10,7 @@ use Rattle.table.specs.Reading.{Step, end, got, bad, node_of, task_of, body_step
 use Rattle.table.proofs.Steps.{part_is_body}
 use Rattle.table.proofs.Numbers.{le2_read_back, le4_read_back, le8_read_back, le2_written, le4_written, le8_written, le2_fits, le4_fits, le8_fits}
 
--- Records with equal numbers are equal.
-node_alike : (rate floor top r f c : ℕ) → rate ≡ r → floor ≡ f → top ≡ c → node rate floor top ≡ node r f c
-node_alike rate floor top r f c p q s = cc
-
+-- Records of tasks with equal numbers are equal.
 task_alike : (units period deadline draw u p d w : ℕ) (name : List ℕ) → units ≡ u → period ≡ p → deadline ≡ d → draw ≡ w →
     task (record { units = units; period = period; deadline = deadline; draw = draw }) name
     ≡ task (record { units = u; period = p; deadline = d; draw = w }) name
@@ -30,8 +27,7 @@ reads_node rate floor top w rest at =
     let low = le4_read_back rate [] w.0 in
     let mid = le8_read_back floor [] w.1 in
     let high = le8_read_back top [] w.2 in
-    part_is_body (entry_bytes (node rate floor top) ++ rest) at (omega arith) (omega arith) (omega arith)
-    ∙ ap (λ e. got e at (at + 24)) (node_alike _ _ _ rate floor top low mid high)
+    part_is_body (entry_bytes (node rate floor top) ++ rest) at (omega arith) (omega arith) (omega arith) ∙ cc
 
 -- A body of kind 2 and a lawful length is a task's.
 task_step : (body : List ℕ) (at to : ℕ) → 19 ≤ length body → length body ≤ 30 → body_step 2 body at to ≡ got (task_of body) at to
@@ -79,12 +75,9 @@ take_bytes n b bytes k h =
 part_and_rest : (j n : ℕ) (b : List ℕ) → take n (drop j b) ++ drop (j + n) b ≡ drop j b
 part_and_rest j n b = ap (λ x. take n (drop j b) ++ x) (sym (drop-drop n j b)) ∙ take-append-drop n (drop j b)
 
-joined_alike : (a b c d : List ℕ) → a ≡ b → c ≡ d → a ++ c ≡ b ++ d
-joined_alike a b c d p q = cc
-
 -- A field that is read, followed by what is left of the body, is the body from that place on.
 field_joins : (field b : List ℕ) (j n : ℕ) (rest : List ℕ) → field ≡ take n (drop j b) → rest ≡ drop (j + n) b → field ++ rest ≡ drop j b
-field_joins field b j n rest p q = joined_alike field (take n (drop j b)) rest (drop (j + n) b) p q ∙ part_and_rest j n b
+field_joins field b j n rest p q = rw (p, q) (part_and_rest j n b)
 
 node_fields : (b : List ℕ) → Bytes b → length b ≡ 20 →
     le_bytes 4 (le4 b 0) ++ (le_bytes 8 (le8 b 4) ++ le_bytes 8 (le8 b 12)) ≡ b
@@ -125,7 +118,7 @@ stands b bytes at e size kind body four long sized kinded cut made count w =
       written = w;
       place = refl;
       after = ap (λ n. at + n) (sized ∙ sym count);
-      front = whole ∙ joined_alike _ (entry_bytes e) _ (drop (length (entry_bytes e)) b) (sym made) (ap (λ n. drop n b) (sym count));
+      front = rw (count, made) whole;
     }
 
 -- What a step says of the bytes in front of it.
