@@ -1,19 +1,26 @@
 -- The sum of a demand, one more urgent task at a time.
-use Rattle.std.proofs.Common.{◌≡◌, ℕ, suc, ◌+◌, ◌-◌, ◌*◌, ◌<◌, ◌≤◌, List, length, get_or, take, drop, refl, le_trans, mul-one, add-one, arith, length-take, drop-cons, get_or-take}
-use Rattle.std.proofs.lemmas.Nat.{mul-le}
+use Rattle.std.proofs.Common.{◌≡◌, ℕ, suc, ◌+◌, ◌-◌, ◌*◌, ◌/◌, ◌%◌, min, ◌<◌, ◌≤◌, List, length, get_or, take, drop, refl, mul-one, add-one, arith, length-take, drop-cons, get_or-take}
+use Rattle.std.proofs.lemmas.Nat.{mul-le, le-div, div_below}
+use Rattle.std.proofs.lemmas.Grind.{div_ceil_times}
 use Rattle.model.specs.declared.task.Task.{Task}
 use Rattle.model.specs.Tasks.{no_task, LawfulTask}
-use Rattle.model.specs.Demand.{job_count, demand, slot_weight}
+use Rattle.model.specs.Demand.{divide_up, job_count, demand, slot_weight}
 use Rattle.model.proofs.Curves.{own_demand, job_count_within}
 use Rattle.analysis.specs.declared.curve.Subject.{Subject}
+
+-- what the library's rounding up gives
+pub rounded_up : (n d : ℕ) → 1 ≤ d → n / d + min 1 (n % d) ≡ divide_up n d
+rounded_up n d pos =
+    let up = n / d + min 1 (n % d) in
+    let near = div_ceil_times n d pos in
+    let low : up ≤ divide_up n d = le-div up (n + d - 1) d pos (omega (arith, near)) in
+    let high : divide_up n d < up + 1 = div_below (n + d - 1) d (up + 1) pos (omega (arith, near)) in
+    omega (arith, low, high)
 
 pub urgent_below : (ts : List Task) (index i : ℕ) → i < length (take index ts) → i < index
 urgent_below ts index i h = omega (arith, length-take index ts)
 
 module _ (s : Subject) where
-  pub own_lawful : LawfulTask 8000000000 (get_or s.tasks.now s.index no_task)
-  own_lawful = (s.sized s.index s.within.0, s.timed s.index s.within.0, s.payable s.index s.within.0)
-
   -- the task that a turn reads is the one at its place, and lawful
   pub urgent_is : (i : ℕ) → i < length (take s.index s.tasks.now) → get_or (take s.index s.tasks.now) i no_task ≡ get_or s.tasks.now i no_task
   urgent_is i h = get_or-take s.index s.tasks.now i no_task (urgent_below s.tasks.now s.index i h)
@@ -24,15 +31,15 @@ module _ (s : Subject) where
       rw (urgent_is i h) (s.sized i at, s.timed i at, s.payable i at)
 
 -- what one job of a lawful task counts, and what all of its jobs in a window count
-pub own_small : (t : Task) (r : ℕ) → LawfulTask 8000000000 t → r ≤ 8000000000 → t.units * r ≤ 4000000000000
-own_small t r law small = mul-le t.units r 500 8000000000 law.0.1 small
+pub own_small : (t : Task) (u r : ℕ) → LawfulTask 8000000000 t → u ≡ t.units → r ≤ 8000000000 → u * r ≤ 4000000000000
+own_small t u r law same small = mul-le u r 500 8000000000 (omega (arith, law)) small
 
-pub jobs_small : (t : Task) (w r : ℕ) → LawfulTask 8000000000 t → w ≤ 100000 → r ≤ 8000000000
-    → job_count t w * (t.units * r) ≤ 400000000000000000
-jobs_small t w r law short small =
-    mul-le (job_count t w) (t.units * r) 100000 4000000000000
-    (le_trans (job_count_within t w (omega (arith, law))) short)
-    (own_small t r law small)
+pub jobs_small : (t : Task) (w j u r : ℕ) → LawfulTask 8000000000 t → w ≤ 100000 → j ≡ job_count t w → u ≡ t.units → r ≤ 8000000000
+    → j * (u * r) ≤ 400000000000000000
+jobs_small t w j u r law short counted same small =
+    mul-le j (u * r) 100000 4000000000000
+    (omega (arith, job_count_within t w (omega (arith, law))))
+    (own_small t u r law same small)
 
 -- demand, taken one task further
 demand_more : (weight : Task → ℕ) (ts : List Task) (index i w : ℕ) → i < index → index < length ts
@@ -44,37 +51,20 @@ demand_more weight ts index i w below within =
     rw (add-one i, more, drop-cons ts i no_task)
 
 -- the sum so far, with a turn's jobs, and what is left of the demand
-pub turn_adds : (weight : Task → ℕ) (ts : List Task) (index i w : ℕ) (t : Task) (sum r total : ℕ) → i < index → index < length ts
-    → t ≡ get_or ts i no_task → r ≡ weight t → sum + demand weight (drop i ts) (index - i) w ≡ total
-    → sum + job_count t w * (t.units * r) + demand weight (drop (i + 1) ts) (index - (i + 1)) w ≡ total
-turn_adds weight ts index i w t sum r total below within same counts before =
-    rw (counts, same) (omega (arith, before, demand_more weight ts index i w below within))
-
-demand_last : (weight : Task → ℕ) (ts : List Task) (index w : ℕ) → index < length ts
-    → demand weight (drop index ts) (index - index) w ≡ own_demand weight (get_or ts index no_task)
-demand_last weight ts index w within =
-    let none : index - index ≡ 0 = omega arith in
-    rw (none, drop-cons ts index no_task)
-
--- the sum of all turns, with the task's own job
-pub own_adds : (weight : Task → ℕ) (ts : List Task) (index i w sum r total : ℕ) → i ≡ index → index < length ts
-    → r ≡ weight (get_or ts index no_task) → sum + demand weight (drop i ts) (index - i) w ≡ total
-    → sum + (get_or ts index no_task).units * r ≡ total
-own_adds weight ts index i w sum r total done within counts before =
-    rw counts (omega (arith, rw done at before, demand_last weight ts index w within))
+pub turn_adds : (weight : Task → ℕ) (ts : List Task) (index i w : ℕ) (t : Task) (sum j u r total : ℕ) → i < index → index < length ts
+    → t ≡ get_or ts i no_task → j ≡ job_count t w → u ≡ t.units → r ≡ weight t → sum + demand weight (drop i ts) (index - i) w ≡ total
+    → sum + j * (u * r) + demand weight (drop (i + 1) ts) (index - (i + 1)) w ≡ total
+turn_adds weight ts index i w t sum j u r total below within same jobs units counts before =
+    rw (jobs, units, counts, same) (omega (arith, before, demand_more weight ts index i w below within))
 
 -- The same for slots, where a unit counts 1.
 
-pub slots_small : (t : Task) (w : ℕ) → LawfulTask 8000000000 t → w ≤ 100000 → job_count t w * t.units ≤ 50000000
-slots_small t w law short =
-    mul-le (job_count t w) t.units 100000 500 (le_trans (job_count_within t w (omega (arith, law))) short) law.0.1
+pub slots_small : (t : Task) (w j u : ℕ) → LawfulTask 8000000000 t → w ≤ 100000 → j ≡ job_count t w → u ≡ t.units → j * u ≤ 50000000
+slots_small t w j u law short counted same =
+    mul-le j u 100000 500 (omega (arith, job_count_within t w (omega (arith, law)))) (omega (arith, law))
 
-pub slot_turn_adds : (ts : List Task) (index i w : ℕ) (t : Task) (sum total : ℕ) → i < index → index < length ts
-    → t ≡ get_or ts i no_task → sum + demand slot_weight (drop i ts) (index - i) w ≡ total
-    → sum + job_count t w * t.units + demand slot_weight (drop (i + 1) ts) (index - (i + 1)) w ≡ total
-slot_turn_adds ts index i w t sum total below within same before =
-    rw mul-one at (turn_adds slot_weight ts index i w t sum 1 total below within same refl before)
-
-pub slot_own_adds : (ts : List Task) (index i w sum total : ℕ) → i ≡ index → index < length ts
-    → sum + demand slot_weight (drop i ts) (index - i) w ≡ total → sum + (get_or ts index no_task).units ≡ total
-slot_own_adds ts index i w sum total done within before = rw mul-one at (own_adds slot_weight ts index i w sum 1 total done within refl before)
+pub slot_turn_adds : (ts : List Task) (index i w : ℕ) (t : Task) (sum j u total : ℕ) → i < index → index < length ts
+    → t ≡ get_or ts i no_task → j ≡ job_count t w → u ≡ t.units → sum + demand slot_weight (drop i ts) (index - i) w ≡ total
+    → sum + j * u + demand slot_weight (drop (i + 1) ts) (index - (i + 1)) w ≡ total
+slot_turn_adds ts index i w t sum j u total below within same jobs units before =
+    rw mul-one at (turn_adds slot_weight ts index i w t sum j u 1 total below within same jobs units refl before)

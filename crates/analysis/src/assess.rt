@@ -1,34 +1,15 @@
 // The bounds of every task of a table, and the verdict.
-ghost use Rattle.std.specs.Prelude.{◌≡◌, ◌<◌, true, length, Decides};
+ghost use Rattle.std.specs.Prelude.{◌≡◌, ◌↔◌, true, All, IsSome, IsTrue, Decides};
 ghost use Rattle.model.specs.Tasks.{LawfulRate, LawfulTasks};
 ghost use Rattle.model.specs.OnTime.{MeetsDeadlines};
 ghost use Rattle.model.specs.Setups.{OneSided};
 ghost use Rattle.table.specs.Tables.{task_list, setup_of};
-ghost use Rattle.analysis.specs.Verdicts.{BoundsOf, VerdictOf, NoBoundsBehind};
+ghost use Rattle.analysis.specs.Verdicts.{VerdictOf, NoBoundsBehind};
 
-use crate::curve::{GreaterCurve, SafeCurve, Subject, TimeCurve};
-use crate::search::search;
-use crate::verdict::{Bound, TaskBounds, Verdict};
+use crate::curve::Subject;
+use crate::verdict::{TaskBounds, Verdict};
 use model::task::Task;
 use table::table::Table;
-
-// The three bounds of the task at the index.
-fn task_bounds(rate: u32, tasks: &[Task], index: usize) -> TaskBounds
-    requires lawful { (LawfulRate rate) × (LawfulTasks 8000000000 tasks.now) }
-    requires within { index < length tasks.now }
-    ensures { BoundsOf rate tasks.now index result }
-{
-    let deadline = tasks[index].deadline;
-    let of = Subject { rate, tasks, index };
-    let time = search(&TimeCurve { of }, deadline);
-    let greater = search(&GreaterCurve { of }, deadline);
-    let safe = search(&SafeCurve { of }, deadline);
-    TaskBounds {
-        time,
-        greater,
-        safe,
-    }
-}
 
 // The tasks are accepted if each of them has a safe bound.
 fn assess_tasks(rate: u32, tasks: &[Task]) -> Verdict
@@ -36,26 +17,23 @@ fn assess_tasks(rate: u32, tasks: &[Task]) -> Verdict
     ensures verdict { VerdictOf rate tasks.now result }
     ensures rest { NoBoundsBehind tasks.now result }
 {
-    let none = Bound {
-        window: None,
-        rounds: 0,
-    };
-    let mut bounds = [TaskBounds {
-        time: none,
-        greater: none,
-        safe: none,
-    }; 16];
-    let mut accepted = true;
-    for index in 0..tasks.len() {
-        let found = task_bounds(rate, tasks, index);
-        accepted &= found.safe.window.is_some();
-        bounds[index] = found;
+    let mut bounds = [TaskBounds::default(); 16];
+    for (index, place) in bounds[..tasks.len()].iter_mut().enumerate() {
+        *place = Subject { rate, tasks, index }.bounds();
     }
+    let accepted = all_safe(&bounds[..tasks.len()]);
     Verdict {
         bounds,
         count: tasks.len(),
         accepted,
     }
+}
+
+// Whether each of these tasks has a safe bound.
+fn all_safe(bounds: &[TaskBounds]) -> bool
+    ensures { IsTrue result ↔ All (λ b. IsSome b.safe.window) bounds.now }
+{
+    bounds.iter().all(|found| found.safe.window.is_some())
 }
 
 // The bounds of every task of a table, and whether the table is accepted: an accepted table is never late, and a one-sided table

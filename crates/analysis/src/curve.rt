@@ -2,8 +2,10 @@
 ghost use Rattle.std.specs.Prelude.{◌≡◌, ◌<◌, ◌≤◌, length};
 ghost use Rattle.model.specs.Tasks.{Sized, Timed, Payable, LawfulRate, Each};
 ghost use Rattle.model.specs.Demand.{slot_weight, safe_weight, demand, time_curve, greater_curve, safe_curve};
+ghost use Rattle.model.proofs.Curves.{time_curve_rises, time_curve_positive, greater_curve_rises, greater_curve_positive, safe_curve_rises, safe_curve_positive};
 
-use crate::search::Curve;
+use crate::search::{Curve, search};
+use crate::verdict::TaskBounds;
 use model::task::Task;
 
 // A task of a lawful table, by its index among all tasks, the most urgent first.
@@ -26,74 +28,93 @@ struct Sums {
     energy: u64,
 }
 
-// One job of the task and every job of the more urgent ones; a unit's energy counts as `least` at least.
-fn demand(least: u32, subject: &Subject<'_>, window: u32) -> Sums
-    requires { (1 ≤ window) × (window ≤ 100000) }
-    ensures slots { result.slots ≡ demand slot_weight subject.now.tasks.now subject.now.index window }
-    ensures energy { result.energy ≡ demand (safe_weight least) subject.now.tasks.now subject.now.index window }
-    ensures small { result.energy ≤ 6000004000000000000 }
-{
-    let tasks = subject.tasks;
-    let mut slots = 0u64;
-    let mut energy = 0u64;
-    for task in &tasks[..subject.index] {
-        let jobs = ((window + task.period - 1) / task.period) as u64;
-        let units = task.units as u64;
-        let unit = task.draw.max(least as u64);
-        slots += jobs * units;
-        energy += jobs * (units * unit);
+impl Subject<'_> {
+    ghost use Rattle.analysis.specs.Verdicts.{BoundsOf};
+
+    // The three bounds of the task.
+    pub(crate) fn bounds(&self) -> TaskBounds
+        ensures { BoundsOf self.now.rate self.now.tasks.now self.now.index result }
+    {
+        let deadline = self.tasks[self.index].deadline;
+        TaskBounds {
+            time: search(&TimeCurve(*self), deadline),
+            greater: search(&GreaterCurve(*self), deadline),
+            safe: search(&SafeCurve(*self), deadline),
+        }
     }
-    let own = &tasks[subject.index];
-    let units = own.units as u64;
-    let unit = own.draw.max(least as u64);
-    Sums {
-        slots: slots + units,
-        energy: energy + units * unit,
+
+    // One job of the task and every job of the more urgent ones; a unit's energy counts as `least` at least.
+    fn demand(&self, least: u32, window: u32) -> Sums
+        requires { (1 ≤ window) × (window ≤ 100000) }
+        ensures slots { result.slots ≡ demand slot_weight self.now.tasks.now self.now.index window }
+        ensures energy { result.energy ≡ demand (safe_weight least) self.now.tasks.now self.now.index window }
+        ensures small { result.energy ≤ 6000004000000000000 }
+    {
+        let mut slots = 0u64;
+        let mut energy = 0u64;
+        for task in &self.tasks[..self.index] {
+            let jobs = u64::from(window.div_ceil(task.period));
+            let units = u64::from(task.units);
+            let unit = task.draw.max(u64::from(least));
+            slots += jobs * units;
+            energy += jobs * (units * unit);
+        }
+        let own = &self.tasks[self.index];
+        let units = u64::from(own.units);
+        let unit = own.draw.max(u64::from(least));
+        Sums {
+            slots: slots + units,
+            energy: energy + units * unit,
+        }
     }
 }
 
 // The slots that the demand takes.
 #[derive(Clone, Copy)]
-pub(crate) struct TimeCurve<'a> {
-    pub(crate) of: Subject<'a>,
-}
+struct TimeCurve<'a>(Subject<'a>);
 
 impl Curve for TimeCurve<'_> {
-    ghost value = { λ s w. time_curve s.of.tasks.now s.of.index w };
+    ghost value = { λ c w. time_curve c.0.tasks.now c.0.index w };
+
+    ghost rises = { λ c. time_curve_rises c.0.tasks.now c.0.index c.0.within.0 c.0.sized c.0.timed };
+
+    ghost positive = { λ c. time_curve_positive c.0.tasks.now c.0.index c.0.within.0 c.0.sized c.0.timed };
 
     fn at(&self, window: u32) -> u64 {
-        demand(0, &self.of, window).slots
+        self.0.demand(0, window).slots
     }
 }
 
 // The slots that the demand takes, or those that bring its energy, whichever are more.
 #[derive(Clone, Copy)]
-pub(crate) struct GreaterCurve<'a> {
-    pub(crate) of: Subject<'a>,
-}
+struct GreaterCurve<'a>(Subject<'a>);
 
 impl Curve for GreaterCurve<'_> {
-    ghost value = { λ s w. greater_curve s.of.rate s.of.tasks.now s.of.index w };
+    ghost value = { λ c w. greater_curve c.0.rate c.0.tasks.now c.0.index w };
+
+    ghost rises = { λ c. greater_curve_rises c.0.tasks.now c.0.index c.0.within.0 c.0.sized c.0.timed c.0.rate c.0.lawful.0 };
+
+    ghost positive = { λ c. greater_curve_positive c.0.tasks.now c.0.index c.0.within.0 c.0.sized c.0.timed c.0.rate c.0.lawful.0 };
 
     fn at(&self, window: u32) -> u64 {
-        let sums = demand(0, &self.of, window);
-        let rate = self.of.rate as u64;
-        sums.slots.max((sums.energy + rate - 1) / rate)
+        let sums = self.0.demand(0, window);
+        sums.slots.max(sums.energy.div_ceil(u64::from(self.0.rate)))
     }
 }
 
 // The slots that bring the demand's energy, where a unit counts no less than what its slot brings.
 #[derive(Clone, Copy)]
-pub(crate) struct SafeCurve<'a> {
-    pub(crate) of: Subject<'a>,
-}
+struct SafeCurve<'a>(Subject<'a>);
 
 impl Curve for SafeCurve<'_> {
-    ghost value = { λ s w. safe_curve s.of.rate s.of.tasks.now s.of.index w };
+    ghost value = { λ c w. safe_curve c.0.rate c.0.tasks.now c.0.index w };
+
+    ghost rises = { λ c. safe_curve_rises c.0.tasks.now c.0.index c.0.within.0 c.0.sized c.0.timed c.0.rate c.0.lawful.0 };
+
+    ghost positive = { λ c. safe_curve_positive c.0.tasks.now c.0.index c.0.within.0 c.0.sized c.0.timed c.0.rate c.0.lawful.0 };
 
     fn at(&self, window: u32) -> u64 {
-        let sums = demand(self.of.rate, &self.of, window);
-        let rate = self.of.rate as u64;
-        (sums.energy + rate - 1) / rate
+        let rate = self.0.rate;
+        self.0.demand(rate, window).energy.div_ceil(u64::from(rate))
     }
 }

@@ -10,9 +10,11 @@ pub(crate) trait Curve {
 
     fn at(&self, window: u32) -> u64
         requires { (1 ≤ window) × (window ≤ 100000) }
-        ensures amount { result ≡ value self.now window }
-        ensures rises { Rising (value self.now) }
-        ensures positive { Positive (value self.now) };
+        ensures { result ≡ value self.now window };
+
+    ghost rises: { (c : Self) → Rising (value c) };
+
+    ghost positive: { (c : Self) → Positive (value c) };
 }
 
 // From window 1 on, each value of the curve is the next window, until the curve holds or the deadline is passed.
@@ -24,16 +26,17 @@ pub(crate) fn search<C: Curve>(curve: &C, deadline: u32) -> Bound
 {
     let mut window = 1u32;
     let mut rounds = 0u32;
+    // no `for` over the rounds, whose end no search would reach
     loop {
         let needed = curve.at(window);
         rounds += 1;
-        if needed <= window as u64 {
+        if needed <= u64::from(window) {
             break Bound {
                 window: Some(window),
                 rounds,
             };
         }
-        if needed > deadline as u64 {
+        if needed > u64::from(deadline) {
             break Bound {
                 window: None,
                 rounds,
