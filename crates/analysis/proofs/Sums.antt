@@ -1,21 +1,11 @@
 -- The sum of a demand, one more urgent task at a time.
-use Rattle.std.proofs.Common.{◌≡◌, ℕ, suc, ◌+◌, ◌-◌, ◌*◌, ◌/◌, ◌%◌, min, ◌<◌, ◌≤◌, List, length, get_or, take, drop, refl, mul-one, add-one, arith, length-take, drop-cons, get_or-take}
-use Rattle.std.proofs.lemmas.Nat.{mul-le, le-div, div_below}
-use Rattle.std.proofs.lemmas.Grind.{div_ceil_times}
+use Rattle.std.proofs.Common.{◌≡◌, ℕ, suc, ◌+◌, ◌-◌, ◌*◌, ◌<◌, ◌≤◌, List, length, get_or, take, drop, refl, mul-one, add-one, arith, length-take, drop-cons, get_or-take}
+use Rattle.std.proofs.lemmas.Nat.{mul-le}
 use Rattle.model.specs.declared.task.Task.{Task}
 use Rattle.model.specs.Tasks.{no_task, LawfulTask}
-use Rattle.model.specs.Demand.{divide_up, job_count, demand, slot_weight}
+use Rattle.model.specs.Demand.{job_count, demand, slot_weight}
 use Rattle.model.proofs.Curves.{own_demand, job_count_within}
 use Rattle.analysis.specs.declared.curve.Subject.{Subject}
-
--- what the library's rounding up gives
-pub rounded_up : (n d : ℕ) → 1 ≤ d → n / d + min 1 (n % d) ≡ divide_up n d
-rounded_up n d pos =
-    let up = n / d + min 1 (n % d) in
-    let near = div_ceil_times n d pos in
-    let low : up ≤ divide_up n d = le-div up (n + d - 1) d pos (omega (arith, near)) in
-    let high : divide_up n d < up + 1 = div_below (n + d - 1) d (up + 1) pos (omega (arith, near)) in
-    omega (arith, low, high)
 
 pub urgent_below : (ts : List Task) (index i : ℕ) → i < length (take index ts) → i < index
 urgent_below ts index i h = omega (arith, length-take index ts)

@@ -13,7 +13,8 @@ use table::table::Table;
 
 // The tasks are accepted if each of them has a safe bound.
 fn assess_tasks(rate: u32, tasks: &[Task]) -> Verdict
-    requires { (LawfulRate rate) × (LawfulTasks 8000000000 tasks.now) }
+    requires rated { LawfulRate rate }
+    requires lawful { LawfulTasks 8000000000 tasks.now }
     ensures verdict { VerdictOf rate tasks.now result }
     ensures rest { NoBoundsBehind tasks.now result }
 {

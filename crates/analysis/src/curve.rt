@@ -1,7 +1,7 @@
 // The three demand curves of a task: time alone, the greater of time and energy, and the safe one.
-ghost use Rattle.std.specs.Prelude.{◌≡◌, ◌<◌, ◌≤◌, length};
+ghost use Rattle.std.specs.Prelude.{◌≡◌, ◌+◌, ◌^◌, ◌<◌, ◌≤◌, length};
 ghost use Rattle.model.specs.Tasks.{Sized, Timed, Payable, LawfulRate, Each};
-ghost use Rattle.model.specs.Demand.{slot_weight, safe_weight, demand, time_curve, greater_curve, safe_curve};
+ghost use Rattle.model.specs.Demand.{divide_up, slot_weight, safe_weight, demand, time_curve, greater_curve, safe_curve};
 ghost use Rattle.model.proofs.Curves.{time_curve_rises, time_curve_positive, greater_curve_rises, greater_curve_positive, safe_curve_rises, safe_curve_positive};
 
 use crate::search::{Curve, search};
@@ -53,7 +53,8 @@ impl Subject<'_> {
         let mut slots = 0u64;
         let mut energy = 0u64;
         for task in &self.tasks[..self.index] {
-            let jobs = u64::from(window.div_ceil(task.period));
+            // div_ceil takes 9 % more instructions on the heaviest table
+            let jobs = u64::from((window + task.period - 1) / task.period);
             let units = u64::from(task.units);
             let unit = task.draw.max(u64::from(least));
             slots += jobs * units;
@@ -67,6 +68,17 @@ impl Subject<'_> {
             energy: energy + units * unit,
         }
     }
+}
+
+// The slots that bring an amount.
+fn slots_for(energy: u64, rate: u32) -> u64
+    requires some { 1 ≤ rate }
+    requires fits { energy + rate < 2 ^ 64 }
+    ensures { result ≡ divide_up energy rate }
+{
+    let rate = u64::from(rate);
+    // div_ceil brings the table of most rounds from 1.09 to 1.11 of the twin's instructions
+    (energy + rate - 1) / rate
 }
 
 // The slots that the demand takes.
@@ -98,7 +110,7 @@ impl Curve for GreaterCurve<'_> {
 
     fn at(&self, window: u32) -> u64 {
         let sums = self.0.demand(0, window);
-        sums.slots.max(sums.energy.div_ceil(u64::from(self.0.rate)))
+        sums.slots.max(slots_for(sums.energy, self.0.rate))
     }
 }
 
@@ -115,6 +127,6 @@ impl Curve for SafeCurve<'_> {
 
     fn at(&self, window: u32) -> u64 {
         let rate = self.0.rate;
-        self.0.demand(rate, window).energy.div_ceil(u64::from(rate))
+        slots_for(self.0.demand(rate, window).energy, rate)
     }
 }

@@ -35,7 +35,7 @@ pub returns-clause-verdict : goal.returns-clause-verdict
 returns-clause-verdict c =
     let ts = c.args.tasks.now in
     let bs = c.loop-index.place-items in
-    let count : length bs ≡ length ts = omega (arith, c.requires.1.few, c.loop-index.auto.place-items, length-take {A = TaskBounds}) in
+    let count : length bs ≡ length ts = omega (arith, c.requires.lawful.few, c.loop-index.auto.place-items, length-take {A = TaskBounds}) in
     verdict_of c.args.rate ts bs _ c.all_safe-accepted.result count (λ k h. c.loop-index.invariant k (omega arith)) c.all_safe-accepted.ensures
 
 none_anywhere : (n k : ℕ) → get_or (replicate n no_bounds) k no_bounds ≡ no_bounds
@@ -52,5 +52,5 @@ none_behind bs n k d none count h =
 
 pub returns-clause-rest : goal.returns-clause-rest
 returns-clause-rest c k h =
-    let count : length c.loop-index.place-items ≡ length c.args.tasks.now = omega (arith, c.requires.1.few, c.loop-index.auto.place-items, length-take {A = TaskBounds}) in
+    let count : length c.loop-index.place-items ≡ length c.args.tasks.now = omega (arith, c.requires.lawful.few, c.loop-index.auto.place-items, length-take {A = TaskBounds}) in
     none_behind c.loop-index.place-items _ k c.default-bounds.result (search rules) count h

@@ -1,8 +1,8 @@
-use Rattle.std.proofs.Common.{◌≡◌, ◌∙◌, ◌*◌, ◌≤◌, get_or, take, arith}
+use Rattle.std.proofs.Common.{◌≡◌, ◌*◌, ◌≤◌, get_or, take, arith}
 use Rattle.model.specs.declared.task.Task.{Task}
 use Rattle.model.specs.Tasks.{no_task}
 use Rattle.model.specs.Demand.{job_count, safe_weight}
-use Rattle.analysis.proofs.Sums.{rounded_up, urgent_below, urgent_is, urgent_lawful, jobs_small, slots_small, turn_adds, slot_turn_adds}
+use Rattle.analysis.proofs.Sums.{urgent_below, urgent_is, urgent_lawful, jobs_small, slots_small, turn_adds, slot_turn_adds}
 use Rattle.analysis.proofs.curve.Subject.demand.Goals as goal
 
 abbrev task : goal.After-max-unit → Task
@@ -10,9 +10,7 @@ task c = get_or (take c.args.self.now.index c.args.self.now.tasks.now) c.loop-ta
 
 -- the jobs of a turn and what a unit counts, which the turn's sums are made of
 jobs_is : (c : goal.After-max-unit) → c.from-jobs.result ≡ job_count (task c) c.args.window
-jobs_is c =
-    let law = urgent_lawful c.args.self.now c.loop-task.task-index c.loop-task-test.true in
-    c.from-jobs.ensures ∙ (c.div_ceil.ensures ∙ rounded_up c.args.window _ (omega (arith, law)))
+jobs_is c = c.from-jobs.ensures
 
 unit_is : (c : goal.After-max-unit) → c.max-unit.result ≡ safe_weight c.args.least (task c)
 unit_is c = cc
