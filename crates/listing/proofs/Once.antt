@@ -1,5 +1,5 @@
 -- A file has one text only: it loads as one outcome, and the bounds of its tasks are one.
-use Rattle.std.proofs.Common.{◌≡◌, ℕ, ◌<◌, Bool, List, ◌++◌, length, drop, Ok, Err, Decides, sym, refl, ap, ◌∙◌, subst, arith, ext_get_or}
+use Rattle.std.proofs.Common.{◌≡◌, ℕ, ◌<◌, Bool, List, ◌++◌, length, drop, Ok, Err, Result, Decides, sym, refl, ap, ◌∙◌, subst, arith, ext_get_or}
 use Rattle.std.proofs.lemmas.Bool.Decides.{same_from_decides}
 use Rattle.model.specs.declared.task.Task.{Task}
 use Rattle.model.specs.Windows.{Accepted}
@@ -15,7 +15,7 @@ use Rattle.analysis.specs.Verdicts.{BoundOf, BoundsOf, AllBounds, no_bounds}
 use Rattle.listing.specs.declared.list.Listed.{Listed}
 use Rattle.listing.specs.Laws.{OneListing, OnlyText}
 use Rattle.listing.specs.Lines.{verdict_text, refused_text}
-use Rattle.listing.specs.Listings.{of_table, of_refusal, FitsIn, TooLong, lines_text}
+use Rattle.listing.specs.Listings.{of_table, of_refusal, ListedInto, lines_text}
 
 one_bound : (curve : ℕ → ℕ) (deadline : ℕ) (a b : Bound) → BoundOf curve deadline a → BoundOf curve deadline b → a ≡ b
 one_bound curve deadline a b p q =
@@ -61,15 +61,13 @@ one_listing file a b x y (of_refusal r at l) (of_refusal s to m) =
     ((λ i. refused_text (number_of (reason i)) (place i)), refl)
 
 -- So the listing that a call answers by is the only one.
-pub only_where_it_fits : {file before after : List ℕ} {l : Listed} → FitsIn file before l after → OnlyText file before (Ok l) after
-only_where_it_fits {file} {before} {after} {l} h text accepted told =
-    let same = one_listing file h.text text l.accepted accepted h.told told in (
+pub only_listing : (file before after : List ℕ) (r : Result Listed Refusal) → ListedInto file before r after → OnlyText file before r after
+only_listing file before after (Ok l) h =
+    λ text accepted told. let same = one_listing file h.text text l.accepted accepted h.told told in (
       h.held ∙ ap (λ t. t ++ drop (length t) before) same.0,
       h.sized ∙ ap length same.0,
       same.1,
     )
-
-pub only_too_long : {file before after : List ℕ} {e : Refusal} → TooLong file before e after → OnlyText file before (Err e) after
-only_too_long {file} {before} {after} {e} h text accepted told =
-    let same = one_listing file h.text text h.accepted accepted h.told told in
+only_listing file before after (Err e) h =
+    λ text accepted told. let same = one_listing file h.text text h.accepted accepted h.told told in
     subst (λ t. length before < length t) same.0 h.short

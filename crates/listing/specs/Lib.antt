@@ -4,4 +4,3 @@ pub mod Cases
 pub mod Lines
 pub mod Listings
 pub mod Puts
-pub mod Texts

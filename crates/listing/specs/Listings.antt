@@ -3,6 +3,7 @@
 --   Listing       a file's text, and whether its table is accepted
 --   ListedInto   what the listing call answers and leaves in the output
 use Rattle.std.specs.Prelude.{◌≡◌, ℕ, ◌<◌, ◌≤◌, Bool, false, List, [], ◌∷◌, ◌++◌, length, drop, Ok, Err, Decides, Result}
+use Rattle.model.specs.OnTime.{AtMost}
 use Rattle.model.specs.Windows.{Accepted}
 use Rattle.model.specs.declared.refusal.Refusal.{Refusal}
 use Rattle.model.specs.declared.refusal.Refusal.TheVariants.{OutputTooShort}
@@ -16,6 +17,13 @@ use Rattle.listing.specs.Lines.{line_text, verdict_text, refused_text}
 
 abbrev pub task_line : List ℕ → TaskBounds → List ℕ
 task_line name b = line_text name b.time.window b.greater.window b.safe.window b.safe.rounds
+
+-- what the bounds of a lawful task can be
+pub record IsSmall (b : TaskBounds) : Type 0 where
+  pub time : AtMost 100000 b.time.window
+  pub greater : AtMost 100000 b.greater.window
+  pub safe : AtMost 100000 b.safe.window
+  pub rounds : b.safe.rounds ≤ 100000
 
 abbrev pub lines_text : List (List ℕ) → List TaskBounds → List ℕ
 lines_text [] bs = []

@@ -2,7 +2,6 @@
 #![tactic(auto)]
 
 pub mod cases;
-mod digits;
 pub mod laws;
 mod line;
 pub mod list;

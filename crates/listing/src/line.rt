@@ -1,83 +1,79 @@
 // The lines of a listing, added at the end of a text.
+#![tactic(auto, using(crate::proofs::Lengths::at_most_six_digits))]
+
 ghost use Rattle.std.specs.Prelude.{◌≡◌, ◌+◌, ◌≤◌, ◌++◌, length, codes};
 ghost use Rattle.model.specs.OnTime.{AtMost};
-ghost use Rattle.listing.specs.Lines.{bound_text, line_text, outcome_text, refused_text, verdict_text};
-ghost use Rattle.listing.specs.Texts.{written};
+ghost use Rattle.listing.specs.Lines.{bound_text, outcome_text, refused_text, verdict_text};
+ghost use Rattle.listing.specs.Listings.{task_line, IsSmall};
 
 use crate::text::Text;
+use analysis::verdict::TaskBounds;
 
-// A space, and then the bound or a minus sign.
-fn put_bound(text: &mut Text, bound: Option<u32>)
-    requires limit { AtMost 100000 bound }
-    requires room { text.old.len + 7 ≤ 768 }
-    ensures text { written text.new ≡ written text.old ++ (codes " " ++ bound_text bound) }
-    ensures len { text.new.len ≤ text.old.len + 7 }
-{
-    text.put(b" ");
-    match bound {
-        Some(n) => text.put_number(u64::from(n)),
-        None => text.put(b"-"),
+impl Text {
+    // The line of a task.
+    pub(crate) fn put_line(&mut self, name: &[u8], bounds: &TaskBounds)
+        requires short { length name.now ≤ 12 }
+        requires small { IsSmall bounds.now }
+        requires room { length self.old + 46 ≤ 768 }
+        ensures text { self.new ≡ self.old ++ task_line name.now bounds.now }
+        ensures len { length self.new ≤ length self.old + 46 }
+    {
+        self.put(name);
+        self.put_bound(bounds.time.window);
+        self.put_bound(bounds.greater.window);
+        self.put_bound(bounds.safe.window);
+        self.put(b" ");
+        self.put_number(bounds.safe.rounds);
+        self.put_outcome(bounds.safe.window);
     }
-}
 
-// A space, then the outcome of a task with this safe bound, and the end of the line.
-fn put_outcome(text: &mut Text, safe: Option<u32>)
-    requires room { text.old.len + 6 ≤ 768 }
-    ensures text { written text.new ≡ written text.old ++ (codes " " ++ outcome_text safe ++ codes "\n") }
-    ensures len { text.new.len ≤ text.old.len + 6 }
-{
-    match safe {
-        Some(_) => text.put(b" ok\n"),
-        None => text.put(b" late\n"),
+    // A space, and then the bound or a minus sign.
+    fn put_bound(&mut self, bound: Option<u32>)
+        requires limit { AtMost 100000 bound }
+        requires room { length self.old + 7 ≤ 768 }
+        ensures text { self.new ≡ self.old ++ codes " " ++ bound_text bound }
+        ensures len { length self.new ≤ length self.old + 7 }
+    {
+        self.put(b" ");
+        match bound {
+            Some(n) => self.put_number(n),
+            None => self.put(b"-"),
+        }
     }
-}
 
-// The line of a task.
-pub(crate) fn put_line(
-    text: &mut Text,
-    name: &[u8],
-    time: Option<u32>,
-    greater: Option<u32>,
-    safe: Option<u32>,
-    rounds: u32,
-)
-    requires short { length name.now ≤ 12 }
-    requires limits { (AtMost 100000 time) × ((AtMost 100000 greater) × ((AtMost 100000 safe) × (rounds ≤ 100000))) }
-    requires room { text.old.len + 46 ≤ 768 }
-    ensures text { written text.new ≡ written text.old ++ line_text name.now time greater safe rounds }
-    ensures len { text.new.len ≤ text.old.len + 46 }
-{
-    text.put(name);
-    put_bound(text, time);
-    put_bound(text, greater);
-    put_bound(text, safe);
-    text.put(b" ");
-    text.put_number(u64::from(rounds));
-    put_outcome(text, safe);
-}
-
-// The last line of a listing.
-pub(crate) fn put_verdict(text: &mut Text, accepted: bool)
-    requires room { text.old.len + 13 ≤ 768 }
-    ensures text { written text.new ≡ written text.old ++ verdict_text accepted }
-    ensures len { text.new.len ≤ text.old.len + 13 }
-{
-    if accepted {
-        text.put(b"accepted\n");
-    } else {
-        text.put(b"not accepted\n");
+    // A space, then the outcome of a task with this safe bound, and the end of the line.
+    fn put_outcome(&mut self, safe: Option<u32>)
+        requires room { length self.old + 6 ≤ 768 }
+        ensures text { self.new ≡ self.old ++ codes " " ++ outcome_text safe ++ codes "\n" }
+        ensures len { length self.new ≤ length self.old + 6 }
+    {
+        match safe {
+            Some(_) => self.put(b" ok\n"),
+            None => self.put(b" late\n"),
+        }
     }
-}
 
-// The only line for a file that is refused, for the reason of this number, at this place.
-pub(crate) fn put_refused(text: &mut Text, number: u8, at: usize)
-    requires room { text.old.len + 36 ≤ 768 }
-    ensures text { written text.new ≡ written text.old ++ refused_text number at }
-    ensures len { text.new.len ≤ text.old.len + 36 }
-{
-    text.put(b"refused ");
-    text.put_number(u64::from(number));
-    text.put(b" at ");
-    text.put_number(at as u64);
-    text.put(b"\n");
+    // The last line of a listing.
+    pub(crate) fn put_verdict(&mut self, accepted: bool)
+        requires { length self.old + 13 ≤ 768 }
+        ensures { self.new ≡ self.old ++ verdict_text accepted }
+    {
+        if accepted {
+            self.put(b"accepted\n");
+        } else {
+            self.put(b"not accepted\n");
+        }
+    }
+
+    // The only line for a file that is refused, for the reason of this number, at this place.
+    pub(crate) fn put_refused(&mut self, number: u8, at: usize)
+        requires { length self.old + 36 ≤ 768 }
+        ensures { self.new ≡ self.old ++ refused_text number at }
+    {
+        self.put(b"refused ");
+        self.put_number(number);
+        self.put(b" at ");
+        self.put_number(at);
+        self.put(b"\n");
+    }
 }

@@ -1,15 +1,12 @@
 // The listing of a table file.
-ghost use Rattle.std.specs.Prelude.{◌≡◌, ◌≤◌};
+ghost use Rattle.std.specs.Prelude.{◌≡◌, ◌≤◌, [], length};
 ghost use Rattle.table.specs.Tables.{task_list, name_list};
 ghost use Rattle.analysis.specs.Verdicts.{VerdictOf, bounds_list};
 ghost use Rattle.listing.specs.Laws.{OnlyText};
 ghost use Rattle.listing.specs.Listings.{Listing, ListedInto, lines_text};
 ghost use Rattle.listing.specs.Puts.{TablePut};
-ghost use Rattle.listing.specs.Texts.{written};
 
-use crate::line::{put_line, put_refused, put_verdict};
 use crate::text::Text;
-use crate::text::copy::copy_out;
 use analysis::assess::assess;
 use analysis::verdict::Verdict;
 use model::refusal::Refusal;
@@ -18,7 +15,7 @@ use table::load::load;
 use table::table::Table;
 
 // A listing that was written: the length of its text, and whether the table is accepted.
-#[derive(Clone, Copy)]
+#[derive(Clone, Copy, Debug, PartialEq, Eq)]
 pub struct Listed {
     pub length: usize,
     pub accepted: bool,
@@ -26,51 +23,38 @@ pub struct Listed {
 
 // The line of each task of an assessed table.
 fn put_lines(text: &mut Text, table: &Table, verdict: &Verdict)
-    requires empty { text.old.len ≡ 0 }
+    requires empty { text.old ≡ [] }
     requires bounds { VerdictOf table.now.rate (task_list table.now) verdict.now }
-    ensures text { written text.new ≡ lines_text (name_list table.now) (bounds_list verdict.now) }
-    ensures len { text.new.len ≤ 736 }
+    ensures text { text.new ≡ lines_text (name_list table.now) (bounds_list verdict.now) }
+    ensures len { length text.new ≤ 736 }
 {
-    for index in 0..verdict.count {
-        if let Some(name) = table.name(index) {
-            let found = verdict.bounds[index];
-            let time = found.time.window;
-            let greater = found.greater.window;
-            let safe = found.safe.window;
-            put_line(
-                text,
-                name.as_bytes(),
-                time,
-                greater,
-                safe,
-                found.safe.rounds,
-            );
-        }
+    for (name, bounds) in table.names().iter().zip(&verdict.bounds[..verdict.count]) {
+        text.put_line(name.as_bytes(), bounds);
     }
 }
 
 // Loads a file, assesses its table, and writes the listing of that table into an empty text.
 fn put_table(file: &[u8], text: &mut Text) -> Result<bool, LoadFault>
-    requires { text.old.len ≡ 0 }
+    requires { text.old ≡ [] }
     ensures { TablePut file.now text.old result text.new }
 {
     let mut table = Table::empty();
     load(file, &mut table)?;
     let verdict = assess(&table);
     put_lines(text, &table, &verdict);
-    put_verdict(text, verdict.accepted);
+    text.put_verdict(verdict.accepted);
     Ok(verdict.accepted)
 }
 
 // Writes the listing of a file into an empty text, and answers whether its table is accepted.
 fn put_listing(file: &[u8], text: &mut Text) -> bool
-    requires { text.old.len ≡ 0 }
-    ensures { Listing file.now (written text.new) result }
+    requires { text.old ≡ [] }
+    ensures { Listing file.now text.new result }
 {
     match put_table(file, text) {
         Ok(accepted) => accepted,
         Err(fault) => {
-            put_refused(text, fault.refusal.number(), fault.at);
+            text.put_refused(fault.refusal.number(), fault.at);
             false
         }
     }
@@ -83,8 +67,6 @@ pub fn listing(file: &[u8], output: &mut [u8]) -> Result<Listed, Refusal>
 {
     let mut text = Text::new();
     let accepted = put_listing(file, &mut text);
-    match copy_out(&text, output) {
-        Some(length) => Ok(Listed { length, accepted }),
-        None => Err(Refusal::OutputTooShort),
-    }
+    let length = text.copy_out(output).ok_or(Refusal::OutputTooShort)?;
+    Ok(Listed { length, accepted })
 }

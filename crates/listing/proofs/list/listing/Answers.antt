@@ -1,32 +1,14 @@
-use Rattle.std.proofs.Common.{refl, arith}
-use Rattle.model.specs.declared.refusal.Refusal.TheVariants.{OutputTooShort}
-use Rattle.listing.specs.Listings.{FitsIn, TooLong}
-use Rattle.listing.specs.Texts.{written}
-use Rattle.listing.proofs.Once.{only_where_it_fits, only_too_long}
+use Rattle.std.proofs.Common.{Ok, rules}
+use Rattle.listing.specs.Listings.{ListedInto}
+use Rattle.listing.proofs.Once.{only_listing}
 use Rattle.listing.proofs.list.listing.Goals as goal
 
-pub returns-in-Some : goal.returns-in-Some
-returns-in-Some c =
-    let out = c.in-Some.ensures in
-    let fits : FitsIn c.args.file.now c.args.output.now
-    (record { length = c.in-Some.length; accepted = c.put_listing-accepted.result }) c.copy_out.new.output = record {
-      text = written c.put_listing-accepted.new.text;
-      told = c.put_listing-accepted.ensures;
-      sized = out.0;
-      held = out.2;
-      room = omega (arith, out.0, out.1);
-    } in
-    record { listed = fits; only = only_where_it_fits fits }
+pub returns-in_err-length : goal.returns-in_err-length
+returns-in_err-length c =
+    let listed : ListedInto c.args.file.now c.args.output.now c.from_residual.result c.copy_out.new.output = search rules in
+    record { listed = listed; only = only_listing _ _ _ c.from_residual.result listed }
 
-pub returns-in-None : goal.returns-in-None
-returns-in-None c =
-    let out = c.in-None.ensures in
-    let long : TooLong c.args.file.now c.args.output.now OutputTooShort c.copy_out.new.output = record {
-      reason = refl;
-      text = written c.put_listing-accepted.new.text;
-      accepted = c.put_listing-accepted.result;
-      told = c.put_listing-accepted.ensures;
-      short = out.0;
-      kept = out.1;
-    } in
-    record { listed = long; only = only_too_long long }
+pub returns : goal.returns
+returns c =
+    let listed : ListedInto c.args.file.now c.args.output.now (Ok (record { length = c.in_ok-length.length; accepted = c.put_listing-accepted.result })) c.copy_out.new.output = search rules in
+    record { listed = listed; only = only_listing _ _ _ (Ok _) listed }
