@@ -49,6 +49,7 @@ fn scale(amount: u32, factor: u16) -> u32
     requires { factor ≤ 256 }
     ensures { result ≡ scaled amount factor }
 {
+    // It is proved that the quotient fits, so `u32::try_from` would only add a case that never comes.
     (u64::from(amount) * u64::from(factor) / 256) as u32
 }
 
