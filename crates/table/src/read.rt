@@ -35,11 +35,13 @@ struct Header<'a> {
 fn read_header<'a>(left: &'a [u8]) -> Option<Header<'a>>
     ensures { MatchOption result (length left.now < 4) (λ h. (4 ≤ length left.now) × (h.len ≡ le2 left.now 0) × (h.kind ≡ le2 left.now 2) × (h.rest.now ≡ drop 4 left.now)) }
 {
-    let (len, rest) = left.split_first_chunk()?;
-    let (kind, rest) = rest.split_first_chunk()?;
+    // a rule of the project: the four bytes of a header are taken apart by one slice pattern
+    let [a, b, c, d, rest @ ..] = left else {
+        return None;
+    };
     Some(Header {
-        len: u16::from_le_bytes(*len),
-        kind: u16::from_le_bytes(*kind),
+        len: u16::from_le_bytes([*a, *b]),
+        kind: u16::from_le_bytes([*c, *d]),
         rest,
     })
 }
