@@ -28,7 +28,7 @@ impl Table {
         Table::new(1, 0, 0).unwrap()
     }
 
-    // A table with no tasks, or a refusal of its numbers.
+    // A table with no tasks, or a refusal of its numbers, which come one by one, as a node's record and callers have them.
     pub fn new(rate: u32, floor: u64, cap: u64) -> Result<Table, Refusal>
         ensures { MatchResult result (λ t. LawfulNode rate floor cap × (contents_of t ≡ bare rate floor cap)) (λ e. (LawfulNode rate floor cap → ⊥) × (e ≡ OutsideLimits)) }
     {
