@@ -21,7 +21,7 @@ module _ (s : Subject) where
       rw (urgent_is i h) (s.sized i at, s.timed i at, s.payable i at)
 
 -- what one job of a lawful task counts, and what all of its jobs in a window count
-pub own_small : (t : Task) (u r : ℕ) → LawfulTask 8000000000 t → u ≡ t.units → r ≤ 8000000000 → u * r ≤ 4000000000000
+own_small : (t : Task) (u r : ℕ) → LawfulTask 8000000000 t → u ≡ t.units → r ≤ 8000000000 → u * r ≤ 4000000000000
 own_small t u r law same small = mul-le u r 500 8000000000 (omega (arith, law)) small
 
 pub jobs_small : (t : Task) (w j u r : ℕ) → LawfulTask 8000000000 t → w ≤ 100000 → j ≡ job_count t w → u ≡ t.units → r ≤ 8000000000

@@ -1,5 +1,5 @@
 // The listing of a table file.
-ghost use Rattle.std.specs.Prelude.{◌≡◌, ◌≤◌, [], length};
+ghost use Rattle.std.specs.Prelude.{◌≡◌, ◌≤◌, length};
 ghost use Rattle.table.specs.Tables.{task_list, name_list};
 ghost use Rattle.analysis.specs.Verdicts.{VerdictOf, bounds_list};
 ghost use Rattle.listing.specs.Laws.{OnlyText};
@@ -22,40 +22,40 @@ pub struct Listed {
 }
 
 // The line of each task of an assessed table.
-fn put_lines(text: &mut Text, table: &Table, verdict: &Verdict)
-    requires empty { text.old ≡ [] }
-    requires bounds { VerdictOf table.now.rate (task_list table.now) verdict.now }
-    ensures text { text.new ≡ lines_text (name_list table.now) (bounds_list verdict.now) }
-    ensures len { length text.new ≤ 736 }
+fn lines(table: &Table, verdict: &Verdict) -> Text
+    requires { VerdictOf table.now.rate (task_list table.now) verdict.now }
+    ensures text { result ≡ lines_text (name_list table.now) (bounds_list verdict.now) }
+    ensures len { length result ≤ 736 }
 {
+    let mut text = Text::new();
     for (name, bounds) in table.names().iter().zip(&verdict.bounds[..verdict.count]) {
         text.put_line(name.as_bytes(), bounds);
     }
+    text
 }
 
-// Loads a file, assesses its table, and writes the listing of that table into an empty text.
-fn put_table(file: &[u8], text: &mut Text) -> Result<bool, LoadFault>
-    requires { text.old ≡ [] }
-    ensures { TablePut file.now text.old result text.new }
+// Loads a file and assesses its table: the listing of that table, and whether it is accepted.
+fn table_listing(file: &[u8]) -> Result<(Text, bool), LoadFault>
+    ensures { TablePut file.now result }
 {
     let mut table = Table::empty();
     load(file, &mut table)?;
     let verdict = assess(&table);
-    put_lines(text, &table, &verdict);
+    let mut text = lines(&table, &verdict);
     text.put_verdict(verdict.accepted);
-    Ok(verdict.accepted)
+    Ok((text, verdict.accepted))
 }
 
-// Writes the listing of a file into an empty text, and answers whether its table is accepted.
-fn put_listing(file: &[u8], text: &mut Text) -> bool
-    requires { text.old ≡ [] }
-    ensures { Listing file.now text.new result }
+// The listing of a file, and whether its table is accepted.
+fn file_listing(file: &[u8]) -> (Text, bool)
+    ensures { Listing file.now result.0 result.1 }
 {
-    match put_table(file, text) {
-        Ok(accepted) => accepted,
+    match table_listing(file) {
+        Ok(listed) => listed,
         Err(fault) => {
+            let mut text = Text::new();
             text.put_refused(fault.refusal.number(), fault.at);
-            false
+            (text, false)
         }
     }
 }
@@ -65,8 +65,7 @@ pub fn listing(file: &[u8], output: &mut [u8]) -> Result<Listed, Refusal>
     ensures listed { ListedInto file.now output.old result output.new }
     ensures only { OnlyText file.now output.old result output.new }
 {
-    let mut text = Text::new();
-    let accepted = put_listing(file, &mut text);
+    let (text, accepted) = file_listing(file);
     let length = text.copy_out(output).ok_or(Refusal::OutputTooShort)?;
     Ok(Listed { length, accepted })
 }

@@ -10,7 +10,7 @@ use Rattle.analysis.specs.declared.verdict.TaskBounds.{TaskBounds}
 use Rattle.analysis.specs.Verdicts.{bounds_list}
 use Rattle.listing.specs.Listings.{task_line, lines_text, IsSmall}
 use Rattle.listing.proofs.Rows.{all_small, lines_none}
-use Rattle.listing.proofs.list.put_lines.Goals as goal
+use Rattle.listing.proofs.list.lines.Goals as goal
 
 pub loop-name-init : goal.loop-name-init
 loop-name-init c =
@@ -19,9 +19,9 @@ loop-name-init c =
     let bounds : iter_rest (zip_second c.into_iter-name-iterator.result) ≡ bounds_list c.args.verdict.now = search rules in
     record {
       text = search rules;
-      len = rw (names, c.requires.empty) (omega (arith, lawful.few, c.names.ensures.len));
+      len = rw (names, c.new-text.ensures) (omega (arith, lawful.few, c.names.ensures.len));
       short = search rules;
-      small = subst (All IsSmall) (sym bounds) (all_small _ _ _ _ lawful c.requires.bounds.bounds);
+      small = subst (All IsSmall) (sym bounds) (all_small _ _ _ _ lawful c.requires.bounds);
     }
 
 pub put_line-requires-clause-small : goal.put_line-requires-clause-small

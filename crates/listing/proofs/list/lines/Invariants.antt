@@ -5,7 +5,7 @@ use Rattle.table.specs.Names.{name_bytes, Short}
 use Rattle.table.specs.Tables.{name_list}
 use Rattle.analysis.specs.Verdicts.{bounds_list}
 use Rattle.listing.specs.Listings.{lines_text, IsSmall}
-use Rattle.listing.proofs.list.put_lines.Given as goal
+use Rattle.listing.proofs.list.lines.Given as goal
 
 -- What is written and the lines that are left make all the lines; a line has at most 46 bytes.
 abbrev pub invariant-loop-name : goal.invariant-loop-name
