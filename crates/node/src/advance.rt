@@ -1,10 +1,10 @@
 // One slot of a node, in place.
 ghost use Rattle.std.specs.Prelude.{◌≡◌, ◌<◌, ◌≤◌, length};
-ghost use Rattle.model.specs.Slots.{turn_of, drawn, slot_step, slot_answer};
+ghost use Rattle.model.specs.Slots.{turn_of, slot_step, slot_answer};
 ghost use Rattle.model.specs.Histories.{History};
 ghost use Rattle.table.specs.Tables.{setup_of, task_list};
 ghost use Rattle.node.specs.Ahead.{NoneBefore, LooksAhead};
-ghost use Rattle.node.specs.Turns.{turn_said, Workable, CandidateStands, open_from, BeginAt, turn_job};
+ghost use Rattle.node.specs.Turns.{turn_said, Workable, CandidateStands, BeginAt, turn_job};
 
 use crate::ahead::{Ahead, pass_deadlines};
 use crate::scan::candidate;
@@ -35,26 +35,6 @@ fn choose(table: &Table, state: &State, first: usize, gain: u32) -> Turn
     }
 }
 
-// What a turn draws from the store.
-fn draw_of(turn: &Turn) -> u64
-    ensures { result ≡ drawn (turn_said turn.now) }
-{
-    match turn {
-        Turn::Runs { job } => job.draw,
-        Turn::Idle | Turn::Waits { .. } => 0,
-    }
-}
-
-// The index of the job that a turn is about, or the number of tasks.
-fn first_open(turn: &Turn, count: usize) -> usize
-    ensures { result ≡ open_from count (turn_job turn.now) }
-{
-    match turn {
-        Turn::Idle => count,
-        Turn::Runs { job } | Turn::Waits { job } => job.index,
-    }
-}
-
 // One slot with what the harvester brings in it.
 pub(crate) fn advance(
     table: &Table,
@@ -71,9 +51,9 @@ pub(crate) fn advance(
     ensures ahead { LooksAhead ahead.new (task_list table.now) state.new.lines }
 {
     let turn = choose(table, state, ahead.first, table.rate());
-    let draw = draw_of(&turn);
+    let draw = turn.draw();
     let tasks = table.tasks();
-    ahead.first = first_open(&turn, tasks.len());
+    ahead.first = turn.first_open(tasks.len());
     let store = Store::new(state.level, table.floor(), table.cap());
     let activity = work(turn, state);
     state.level = store.put(harvest, draw).level();

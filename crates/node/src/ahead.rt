@@ -7,7 +7,7 @@ use crate::scan::{earliest, expire};
 use model::state::Line;
 use model::task::Task;
 
-#[derive(Clone, Copy)]
+#[derive(Clone, Copy, Debug, PartialEq, Eq)]
 pub(crate) struct Ahead {
     // no job is open before this index
     pub(crate) first: usize,

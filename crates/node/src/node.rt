@@ -8,7 +8,6 @@ ghost use Rattle.model.specs.Releases.{release_refusal, release_step};
 ghost use Rattle.model.specs.Orders.{slots_refusal, Run, Slotted, Obeyed, Driven, report_of};
 ghost use Rattle.model.specs.Amounts.{RunBy, SlottedBy, ObeyedBy, DrivenBy};
 ghost use Rattle.model.specs.Histories.{History, fresh};
-ghost use Rattle.model.specs.Refusals.{mark_of};
 ghost use Rattle.harvest.specs.Takes.{Taking};
 ghost use Rattle.table.specs.Tables.{setup_of, task_list};
 ghost use Rattle.node.specs.Ahead.{LooksAhead};
@@ -19,15 +18,13 @@ ghost use Rattle.node.specs.Reports.{ResponsesWithin};
 
 use crate::advance::advance;
 use crate::ahead::Ahead;
-use crate::release::release_into;
+use crate::release::{CLOCK_END, release_into};
 use harvest::harvester::Harvester;
 use model::order::{Ask, Order, Report};
 use model::refusal::Refusal;
 use model::slot::SlotAnswer;
 use model::state::{Line, State};
 use table::table::Table;
-
-const CLOCK_END: u64 = 4_000_000_000;
 
 #[derive(Drop)]
 pub struct Node<H> {
@@ -40,10 +37,19 @@ pub struct Node<H> {
 }
 
 // What a refused start gives back.
-#[derive(Drop)]
+#[derive(Debug, PartialEq, Eq, Drop)]
 pub struct NotStarted<H> {
     pub refusal: Refusal,
     pub harvester: H,
+}
+
+// Why the start was refused, without the harvester.
+impl<H: Drop> From<NotStarted<H>> for Refusal {
+    ghost from_gives = { λ refused r. r ≡ refused.refusal };
+
+    fn from(refused: NotStarted<H>) -> Refusal {
+        refused.refusal
+    }
 }
 
 impl<H: Harvester> Node<H> {
@@ -112,21 +118,29 @@ impl<H: Harvester> Node<H> {
         )
     }
 
+    // Whether a number of slots may be run.
+    fn check_slots(&self, count: u32) -> Result<(), Refusal>
+        ensures { refusal_said result ≡
+            slots_refusal (setup_of self.now.table) (H.Harvester.promised self.now.harvester) self.now.state count }
+    {
+        if count == 0 {
+            return Ok(());
+        }
+        if self.harvester.promise() < self.table.rate() {
+            return Err(Refusal::PromiseTooLow);
+        }
+        if u64::from(self.state.clock) + u64::from(count) > u64::from(CLOCK_END) {
+            return Err(Refusal::ClockEnd);
+        }
+        Ok(())
+    }
+
     // Why a number of slots is refused, if it is.
     pub fn slots_refused(&self, count: u32) -> Option<Refusal>
         ensures { result ≡ slots_refusal (setup_of self.now.table) (H.Harvester.promised self.now.harvester)
             self.now.state count }
     {
-        if count == 0 {
-            return None;
-        }
-        if self.harvester.promise() < self.table.rate() {
-            return Some(Refusal::PromiseTooLow);
-        }
-        if self.state.clock as u64 + count as u64 > CLOCK_END {
-            return Some(Refusal::ClockEnd);
-        }
-        None
+        self.check_slots(count).err()
     }
 
     // One slot that is not refused.
@@ -170,9 +184,7 @@ impl<H: Harvester> Node<H> {
         ensures promise { H.Harvester.promised self.new.harvester ≡ H.Harvester.promised self.old.harvester }
         ensures paid { self.old.table.rate ≤ H.Harvester.promised self.old.harvester → result ≢ Err PromiseTooLow }
     {
-        if let Some(refusal) = self.slots_refused(1) {
-            return Err(refusal);
-        }
+        self.check_slots(1)?;
         Ok(self.step())
     }
 
@@ -192,40 +204,35 @@ impl<H: Harvester> Node<H> {
         }
     }
 
-    // One order, and its refusal if it is refused.
-    fn obey(&mut self, ask: Ask) -> Option<Refusal>
+    // One order, done or refused.
+    fn obey(&mut self, ask: Ask) -> Result<(), Refusal>
         ensures obeyed { Obeyed (setup_of self.old.table) (H.Harvester.promised self.old.harvester)
-            self.old.state ask result self.new.state }
+            self.old.state ask (refusal_said result) self.new.state }
         ensures taking { Taking H.Harvester.coming H.Harvester.taken self.old.harvester self.new.harvester
             (λ amounts. ObeyedBy (setup_of self.old.table) (H.Harvester.promised self.old.harvester)
-            self.old.state ask result amounts self.new.state) }
+            self.old.state ask (refusal_said result) amounts self.new.state) }
         ensures table { self.new.table ≡ self.old.table }
         ensures promise { H.Harvester.promised self.new.harvester ≡ H.Harvester.promised self.old.harvester }
     {
         match ask {
-            Ask::Release { task, units, draw } => match self.release(task, units, draw) {
-                Ok(()) => None,
-                Err(refusal) => Some(refusal),
-            },
+            Ask::Release { task, units, draw } => self.release(task, units, draw),
             Ask::Slots { count } => self.obey_slots(count),
         }
     }
 
     // Some slots, refused whole or done.
-    fn obey_slots(&mut self, count: u32) -> Option<Refusal>
+    fn obey_slots(&mut self, count: u32) -> Result<(), Refusal>
         ensures slotted { Slotted (setup_of self.old.table) (H.Harvester.promised self.old.harvester) count
-            self.old.state result self.new.state }
+            self.old.state (refusal_said result) self.new.state }
         ensures taking { Taking H.Harvester.coming H.Harvester.taken self.old.harvester self.new.harvester
             (λ amounts. SlottedBy (setup_of self.old.table) (H.Harvester.promised self.old.harvester) count
-            self.old.state result amounts self.new.state) }
+            self.old.state (refusal_said result) amounts self.new.state) }
         ensures table { self.new.table ≡ self.old.table }
         ensures promise { H.Harvester.promised self.new.harvester ≡ H.Harvester.promised self.old.harvester }
     {
-        if let Some(refusal) = self.slots_refused(count) {
-            return Some(refusal);
-        }
+        self.check_slots(count)?;
         self.run_slots(count);
-        None
+        Ok(())
     }
 
     // Does each order in turn, marks it, and says how many were refused.
@@ -243,9 +250,9 @@ impl<H: Harvester> Node<H> {
     {
         let mut refused = 0usize;
         'each: for order in orders.iter_mut() {
-            let mark = mark(self.obey(order.ask));
-            order.mark = mark;
-            if mark != 0 {
+            // 0, or the fixed number of the refusal
+            order.mark = self.obey(order.ask).err().map_or(0, Refusal::number);
+            if order.mark != 0 {
                 refused += 1;
             }
         }
@@ -259,14 +266,7 @@ impl<H: Harvester> Node<H> {
         ensures within { Accepted self.now.table.rate (task_list self.now.table) →
             ResponsesWithin self.now.table.rate (task_list self.now.table) result }
     {
-        Report {
-            clock: self.state.clock,
-            level: self.state.level,
-            released: self.state.released,
-            closed: self.state.closed,
-            finished: self.state.finished,
-            longest: self.state.longest,
-        }
+        Report::from(&self.state)
     }
 }
 
@@ -278,14 +278,4 @@ fn bring<H: Harvester>(harvester: &mut H) -> u32
     ensures law { Harvest (H.Harvester.promised harvester.old) (H.Harvester.coming harvester.old) }
 {
     harvester.take()
-}
-
-// 0 for an order that was done, else the number of its refusal.
-fn mark(outcome: Option<Refusal>) -> u8
-    ensures { result ≡ mark_of outcome }
-{
-    match outcome {
-        None => 0,
-        Some(refusal) => refusal.number(),
-    }
 }

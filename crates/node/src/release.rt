@@ -1,5 +1,5 @@
 // One release of a job, in place.
-ghost use Rattle.std.specs.Prelude.{◌≡◌, ◌+◌, nat_lt};
+ghost use Rattle.std.specs.Prelude.{◌≡◌};
 ghost use Rattle.model.specs.Releases.{too_early, job_fits, release_refusal, release_step};
 ghost use Rattle.model.specs.Histories.{History};
 ghost use Rattle.table.specs.Tables.{setup_of, task_list};
@@ -13,18 +13,14 @@ use model::state::{Line, State};
 use model::task::Task;
 use table::table::Table;
 
+// The last clock.
+pub(crate) const CLOCK_END: u32 = 4_000_000_000;
+
 // Whether a job keeps the limits of its task.
 fn is_within(task: &Task, units: u16, draw: u64) -> bool
     ensures { result ≡ job_fits task.now units draw }
 {
-    1 <= units && units <= task.units && draw <= task.draw
-}
-
-// Whether less than a period has passed since a release.
-fn within_period(clock: u32, released: u32, period: u32) -> bool
-    ensures { result ≡ nat_lt clock (released + period) }
-{
-    u64::from(clock) < u64::from(released) + u64::from(period)
+    (1..=task.units).contains(&units) && draw <= task.draw
 }
 
 // Whether less than a period has passed since the last release of a task.
@@ -33,8 +29,9 @@ fn is_early(clock: u32, task: &Task, line: &Line) -> bool
 {
     match *line {
         Line::Never => false,
-        Line::Closed { released } => within_period(clock, released, task.period),
-        Line::Open { released, .. } => within_period(clock, released, task.period),
+        Line::Closed { released } | Line::Open { released, .. } => {
+            u64::from(clock) < u64::from(released) + u64::from(task.period)
+        }
     }
 }
 
@@ -62,7 +59,7 @@ pub(crate) fn release_into(
     if !is_within(&tasks[index], units, draw) {
         return Err(Refusal::OutsideTask);
     }
-    if state.clock >= 4_000_000_000 {
+    if state.clock >= CLOCK_END {
         return Err(Refusal::ClockEnd);
     }
     if is_early(state.clock, &tasks[index], &state.lines[index]) {

@@ -32,11 +32,7 @@ pub fn run_orders<H: Harvester + Drop>(
           orders.old orders.new report
     ] }
 {
-    match Node::start(table, level, harvester) {
-        Ok(mut node) => {
-            let _ = node.drive(orders);
-            Ok(node.report())
-        }
-        Err(refused) => Err(refused.refusal),
-    }
+    let mut node = Node::start(table, level, harvester)?;
+    let _ = node.drive(orders);
+    Ok(node.report())
 }

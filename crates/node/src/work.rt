@@ -1,21 +1,11 @@
 // The unit of a slot, in place.
 ghost use Rattle.std.specs.Prelude.{◌≡◌, ◌<◌, ◌≤◌};
-ghost use Rattle.model.specs.Slots.{runs, longer as longer_of, activity_of};
+ghost use Rattle.model.specs.Slots.{runs, activity_of};
 ghost use Rattle.node.specs.Turns.{job_said, turn_said, progress_of, Workable, worked_state};
 
 use crate::turn::{Job, Turn};
 use model::slot::{Activity, Progress};
 use model::state::{Line, State};
-
-// The longer of a task's longest response and another one.
-fn longer(longest: Option<u32>, response: u32) -> Option<u32>
-    ensures { result ≡ longer_of longest response }
-{
-    match longest {
-        None => Some(response),
-        Some(so_far) => Some(so_far.max(response)),
-    }
-}
 
 // One unit of a job; its last one closes the job and notes the response.
 fn run_unit(job: &Job, state: &mut State) -> Progress
@@ -37,7 +27,7 @@ fn run_unit(job: &Job, state: &mut State) -> Progress
     state.lines[job.index] = Line::Closed {
         released: job.since,
     };
-    state.longest[job.index] = longer(state.longest[job.index], response);
+    state.longest[job.index] = state.longest[job.index].max(Some(response));
     state.closed += 1;
     state.finished += 1;
     Progress::Finished { response }
@@ -53,12 +43,12 @@ pub(crate) fn work(turn: Turn, state: &mut State) -> Activity
     match turn {
         Turn::Idle => Activity::Idle,
         Turn::Waits { job } => Activity::Waited {
-            task: job.index as u8 + 1,
+            task: job.number(),
         },
         Turn::Runs { job } => {
             let progress = run_unit(&job, state);
             Activity::Ran {
-                task: job.index as u8 + 1,
+                task: job.number(),
                 progress,
             }
         }

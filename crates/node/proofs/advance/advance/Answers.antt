@@ -35,7 +35,7 @@ pub put-requires : goal.put-requires
 put-requires c =
     let t = c.args.table.now in
     let s = c.args.state.now in
-    let draw : c.draw_of-draw.result ≡ drawn (turn_of (setup_of t) s) = c.draw_of-draw.ensures ∙ ap drawn c.choose-turn.ensures.turn in
+    let draw : c.draw-draw.result ≡ drawn (turn_of (setup_of t) s) = c.draw-draw.ensures ∙ ap drawn c.choose-turn.ensures.turn in
     let covered = covered_of (setup_of t) (setup_lawful t) _ s c.requires.reached c.args.harvest c.requires.harvest in
     record {
       covered = omega (arith, draw, covered, c.new-store.ensures.level, c.new-store.ensures.bounds.0, c.floor.ensures.value);
@@ -79,7 +79,7 @@ returns c =
     let w = c.work-activity.new.state in
     let turn = c.choose-turn.ensures.turn in
     let unit : w ≡ worked_state (turn_of n s) s = c.work-activity.ensures.state ∙ ap (λ x. worked_state x s) turn in
-    let draw : c.draw_of-draw.result ≡ drawn (turn_of n s) = c.draw_of-draw.ensures ∙ ap drawn turn in
+    let draw : c.draw-draw.result ≡ drawn (turn_of n s) = c.draw-draw.ensures ∙ ap drawn turn in
     let level : c.level-state.result ≡ put_level n s.level c.args.harvest (drawn (turn_of n s)) = cc in
     let tasks = c.tasks-tasks.ensures.value in
     let lines : c.pass_deadlines-abandoned.new.lines ≡ expired (w.clock + 1) n.tasks w.lines =

@@ -4,9 +4,9 @@ use Rattle.table.specs.Tables.{task_list}
 use Rattle.node.proofs.Sessions.{session_of}
 use Rattle.node.proofs.session.run_orders.Goals as goal
 
-pub returns-in-Ok : goal.returns-in-Ok
-returns-in-Ok g c =
-    let begun = c.in-Ok.ensures in
+pub returns : goal.returns
+returns g c =
+    let begun = c.in_ok-node.ensures in
     let harvester = g.H.Harvester in
     let session =
     session_of harvester.coming harvester.promised harvester.taken _ _ _ _ _ _ _ _ _ _ _ begun.2 begun.3 begun.4

@@ -5,26 +5,27 @@ use Rattle.model.specs.Amounts.{ObeyedBy, stop_by}
 use Rattle.model.proofs.Forgetting.{drive_told}
 use Rattle.table.specs.Tables.{setup_of}
 use Rattle.node.specs.Marks.{refusals, no_order}
+use Rattle.node.specs.Outcomes.{refusal_said}
 use Rattle.node.proofs.Driving.{rest_more, refusals_more, driven_here, marks_more, takes_append, driven_asks, driven_not_9}
 use Rattle.node.proofs.node.Node.drive.Goals as goal
-use Rattle.node.proofs.node.Node.drive.Goals.{then-mark-ne0, else-mark-ne0}
+use Rattle.node.proofs.node.Node.drive.Goals.{then-order-ne0, else-order-ne0}
 
 pub each-preserved : goal.each-preserved
 each-preserved g c =
     let i = c.each.order-index in
     let os₀ = c.args.orders.now in
     let os = c.each.orders in
-    let m = c.mark-mark.result in
-    let x = c.obey.result in
+    let m = c.map_or-order.result in
+    let x = refusal_said c.obey.result in
     let inv = c.each.invariant in
     let promised = g.H.Harvester.promised in
     let lt₀ : i < length os₀ = omega arith in
     let lt : i < length os = omega arith in
     let n = refusals_more os₀ os i m lt₀ lt inv.4 in
-    let count : c.if-mark-ne0.refused ≡ c.each.refused + cond (eqb m 0) 0 1 =
-    elim c.if-mark-ne0.branch [
-      | then-mark-ne0 w ↦ let b : eqb m 0 ≡ false = grind (arith, nat_tests) in rw b w.refused-is
-      | else-mark-ne0 w ↦ let b : eqb m 0 ≡ true = grind (arith, nat_tests) in rw b (w.refused-is ∙ omega arith)
+    let count : c.if-order-ne0.refused ≡ c.each.refused + cond (eqb m 0) 0 1 =
+    elim c.if-order-ne0.branch [
+      | then-order-ne0 w ↦ let b : eqb m 0 ≡ false = grind (arith, nat_tests) in rw b w.refused-is
+      | else-order-ne0 w ↦ let b : eqb m 0 ≡ true = grind (arith, nat_tests) in rw b (w.refused-is ∙ omega arith)
     ] in
     let ask = (get_or os i no_order).ask in
     let to = c.obey.new.self.state in
@@ -40,7 +41,7 @@ each-preserved g c =
       search rules,
       rest_more os₀ os i m lt₀ lt inv.4,
       λ ps later u last rest takes.
-          let here = driven_here os₀ os i m lt₀ lt inv.4 _ _ _ _ x did.0 c.mark-mark.ensures ob ps later u rest in
+          let here = driven_here os₀ os i m lt₀ lt inv.4 _ _ _ _ x did.0 (search rules) ob ps later u rest in
           let whole = inv.5 _ _ u last here (takes_append coming taken did.0 later _ _ last did.2 takes) in
           rw (sym (marks_more os₀ os i m lt₀ lt inv.4 ps)) whole,
     )
