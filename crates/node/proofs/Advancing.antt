@@ -1,5 +1,6 @@
 -- A slot, put together from its parts.
 use Rattle.std.proofs.Common.{◌≡◌, ℕ, ◌+◌, List}
+use Rattle.model.specs.declared.task.Task.{Task}
 use Rattle.model.specs.declared.state.Line.{Line}
 use Rattle.model.specs.declared.state.State.{State}
 use Rattle.model.specs.declared.slot.Activity.{Activity}
@@ -7,12 +8,15 @@ use Rattle.model.specs.declared.slot.SlotAnswer.{SlotAnswer}
 use Rattle.model.specs.Setups.{Setup}
 use Rattle.model.specs.Energy.{put_level}
 use Rattle.model.specs.Slots.{turn_of, drawn, expired, abandoned, activity_of, slot_step, slot_answer}
-use Rattle.node.specs.Turns.{worked_state}
+use Rattle.node.specs.declared.turn.Turn.{Turn}
+use Rattle.node.specs.Turns.{turn_said, worked_state}
 
--- the state and the answer after a slot, from the state w after the slot's unit, the new level, and what the walk over the lines gave
-module _ (n : Setup) (s : State) (harvest : ℕ) (w : State) (level gone : ℕ) (unit : w ≡ worked_state (turn_of n s) s) where
-  pub state_after : (ls : List Line) → level ≡ put_level n s.level harvest (drawn (turn_of n s)) → ls ≡ expired (w.clock + 1) n.tasks w.lines →
-      gone ≡ abandoned (w.clock + 1) n.tasks w.lines →
+-- the state and the answer after a slot: its turn v, the state w after the slot's unit, and what the walk over the lines gave
+module _ (n : Setup) (s : State) (harvest : ℕ) (v : Turn) (chosen : turn_said v ≡ turn_of n s)
+    (w : State) (unit : w ≡ worked_state (turn_said v) s) (ts : List Task) (tasks : ts ≡ n.tasks)
+    (level draw gone : ℕ) (takes : draw ≡ drawn (turn_said v)) (kept : level ≡ put_level n s.level harvest draw)
+    (left : gone ≡ abandoned (w.clock + 1) ts w.lines) where
+  pub state_after : (ls : List Line) → ls ≡ expired (w.clock + 1) ts w.lines →
       ◌≡◌ {A = State} (record {
         clock = w.clock + 1;
         level = level;
@@ -22,9 +26,8 @@ module _ (n : Setup) (s : State) (harvest : ℕ) (w : State) (level gone : ℕ) 
         lines = ls;
         longest = w.longest;
       }) (slot_step n s harvest)
-  state_after ls p q r = rw (p, q, r, unit)
+  state_after ls walked = rw (kept, takes, walked, left, tasks, unit, chosen)
 
-  pub answer_after : (activity : Activity) (draw : ℕ) → activity ≡ activity_of (turn_of n s) s.clock → draw ≡ drawn (turn_of n s) →
-      level ≡ put_level n s.level harvest (drawn (turn_of n s)) → gone ≡ abandoned (w.clock + 1) n.tasks w.lines →
+  pub answer_after : (activity : Activity) → activity ≡ activity_of (turn_said v) s.clock →
       ◌≡◌ {A = SlotAnswer} (record { activity = activity; harvest = harvest; draw = draw; level = level; abandoned = gone }) (slot_answer n s harvest)
-  answer_after activity draw a d p r = rw (a, d, p, r, unit)
+  answer_after activity told = rw (told, kept, takes, left, tasks, unit, chosen)

@@ -1,6 +1,7 @@
 mod Lines
 mod Advancing
 mod Looking
+mod Choosing
 mod Reached
 mod Running
 mod Driving

@@ -2,14 +2,19 @@
 --   candidate_here    the walk for the most urgent open job ends at an open line
 --   candidate_next    and passes one that is not open
 --   candidate_from    it may start where the open jobs begin
---   candidate_end     past the last task there is none
+--   candidate_end     past the last task or line there is none
+--   pair_at           a place of a walk over both
 --   none_before_more, none_before_worked   no job is open below an index
 --   Walked            a walk that abandons each job that is due, up to a line
 --   walked_by, walked_due   one line more, kept or shut
 --   walked_from       a walk may start where the open jobs begin
 --   walked_all        past the last task all is done
-use Rattle.std.proofs.Common.{◌≡◌, ℕ, zero, suc, ◌+◌, ◌<◌, ◌≤◌, true, false, cond, ◌≢◌, List, ◌∷◌, ◌++◌, length, get_or, take, drop, set, Some, None, sym, refl, ap, ◌∙◌, subst, append_assoc, add-one, arith, take-append-drop, get_or-set_other, below_more}
-use Rattle.std.proofs.lemmas.List.{take_more_set, drop_more, drop-set-lt, drop_all, set-get_or}
+use Rattle.std.proofs.Common.{◌≡◌, ℕ, zero, suc, ◌+◌, ◌<◌, ◌≤◌, true, false, cond, ◌≢◌, List, ◌∷◌, ◌++◌, length, min, get_or, take, drop, set, Some, None, ⊎_elim, [], sym, refl, ap, ◌∙◌, subst, append_assoc, add-one, arith, take-append-drop, get_or-set_other, below_more}
+use Rattle.std.proofs.lemmas.List.{take_more_set, drop_more, drop-set-lt, drop_all, set-get_or, get_or_default, get_or_past}
+use Rattle.std.proofs.lemmas.Bool.{cases_lt}
+use Rattle.std.proofs.lemmas.List.FromFn.{length-enumerate_from, get_or-enumerate_from}
+use Rattle.std.proofs.lemmas.Slice.Zip.{length-zip, get_or-zip}
+use Rattle.std.specs.List.{enumerate_from, zip}
 use Rattle.model.specs.declared.task.Task.{Task}
 use Rattle.model.specs.declared.state.Line.{Line}
 use Rattle.model.specs.declared.state.Line.TheVariants.{Never, Closed, Open}
@@ -26,17 +31,16 @@ candidate_passes i t ts Never ls not = refl
 candidate_passes i t ts (Closed r) ls not = refl
 candidate_passes i t ts (Open r u d) ls not = absurd (not r u d refl)
 
-module _ (ts : List Task) (ls : List Line) (i : ℕ) (h : i < length ts) (k : i < length ls) where
+module _ (ts : List Task) (ls : List Line) (i number : ℕ) (h : i < length ts) (k : i < length ls) where
   pub candidate_here : (r u d : ℕ) → get_or ls i Never ≡ Open r u d →
-      candidate i (drop i ts) (drop i ls) ≡ Some (record { index = i; task = get_or ts i no_task; since = r; left = u; draw = d })
+      candidate number (drop i ts) (drop i ls) ≡ Some (record { index = number; task = get_or ts i no_task; since = r; left = u; draw = d })
   candidate_here r u d e = rw (drop_more ts i no_task h, drop_more ls i Never k, e)
 
   pub candidate_next : ((r u d : ℕ) → get_or ls i Never ≡ Open r u d → ⊥) →
-      candidate i (drop i ts) (drop i ls) ≡ candidate (i + 1) (drop (i + 1) ts) (drop (i + 1) ls)
+      candidate number (drop i ts) (drop i ls) ≡ candidate (suc number) (drop (i + 1) ts) (drop (i + 1) ls)
   candidate_next not =
       rw (drop_more ts i no_task h, drop_more ls i Never k)
-      (candidate_passes i (get_or ts i no_task) (drop (i + 1) ts) (get_or ls i Never) (drop (i + 1) ls) not
-      ∙ ap (λ n. candidate n (drop (i + 1) ts) (drop (i + 1) ls)) (sym (add-one i)))
+      (candidate_passes number (get_or ts i no_task) (drop (i + 1) ts) (get_or ls i Never) (drop (i + 1) ls) not)
 
 -- where no job is open below i, the search may start there
 pub candidate_from : (ts : List Task) (ls : List Line) (i : ℕ) → i ≤ length ts → i ≤ length ls → NoneBefore i ls →
@@ -44,11 +48,41 @@ pub candidate_from : (ts : List Task) (ls : List Line) (i : ℕ) → i ≤ lengt
 candidate_from ts ls zero h k none = refl
 candidate_from ts ls (suc i) h k none =
     let before = candidate_from ts ls i (omega arith) (omega arith) (λ j below. none j (omega arith)) in
-    subst (λ j. candidate 0 ts ls ≡ candidate j (drop j ts) (drop j ls)) (add-one i)
-    (before ∙ candidate_next ts ls i (omega arith) (omega arith) (none i (omega arith)))
+    subst (λ j. candidate 0 ts ls ≡ candidate (suc i) (drop j ts) (drop j ls)) (add-one i)
+    (before ∙ candidate_next ts ls i i (omega arith) (omega arith) (none i (omega arith)))
 
-pub candidate_end : (ts : List Task) (ls : List Line) (i : ℕ) → length ts ≤ i → candidate i (drop i ts) (drop i ls) ≡ None
-candidate_end ts ls i h = rw (drop_all i ts h)
+no_line : (number : ℕ) (ts : List Task) → candidate number ts [] ≡ None
+no_line number [] = refl
+no_line number (t ∷ ts) = refl
+
+pub candidate_end : (number : ℕ) (ts : List Task) (ls : List Line) (i : ℕ) → i ≡ min (length ts) (length ls) →
+    candidate number (drop i ts) (drop i ls) ≡ None
+candidate_end number ts ls i h =
+    ⊎_elim
+    (λ lt. rw (drop_all i ls (omega (arith, h))) (no_line number (drop i ts)))
+    (λ le. rw (drop_all i ts (omega (arith, h))))
+    (cases_lt (length ls) (length ts))
+
+-- an open line is one of the lines
+pub open_within : (ls : List Line) (k r u d : ℕ) → get_or ls k Never ≡ Open r u d → k < length ls
+open_within ls k r u d e =
+    ⊎_elim
+    (λ lt. lt)
+    (λ le. let past = get_or_past ls k Never le in let z : ◌≡◌ {A = ℕ} 0 1 = cc in absurd (omega arith))
+    (cases_lt k (length ls))
+
+-- the task and the line at a place of a walk over both
+pub pair_at : (ts : List Task) (ls : List Line) (k i : ℕ) (t : Task) (l : Line) → k < length (enumerate_from 0 (zip ts ls)) →
+    ◌≡◌ {A = ℕ × (Task × Line)} (i, (t, l)) (get_or (enumerate_from 0 (zip ts ls)) k (i, (t, l))) →
+    (i ≡ k) × (k < length ts) × (k < length ls) × (t ≡ get_or ts k no_task) × (l ≡ get_or ls k Never)
+pair_at ts ls k i t l within same =
+    let pairs = zip ts ls in
+    let long : k < length pairs = omega (arith, length-enumerate_from 0 pairs) in
+    let in_ts : k < length ts = omega (arith, length-zip ts ls) in
+    let in_ls : k < length ls = omega (arith, length-zip ts ls) in
+    let at = same ∙ get_or-enumerate_from 0 pairs k (i, (t, l)) long in
+    let both = ap (λ p. p.1) at ∙ get_or-zip ts ls k (t, l) in_ts in_ls in
+    (ap (λ p. p.0) at ∙ omega arith, in_ts, in_ls, ap (λ p. p.0) both ∙ get_or_default ts k t no_task in_ts, ap (λ p. p.1) both ∙ get_or_default ls k l Never in_ls)
 
 pub none_before_more : (i : ℕ) (ls : List Line) → NoneBefore i ls → ((r u d : ℕ) → get_or ls i Never ≡ Open r u d → ⊥) → NoneBefore (i + 1) ls
 none_before_more i ls none not = below_more (λ k. (r u d : ℕ) → get_or ls k Never ≡ Open r u d → ⊥) i none not

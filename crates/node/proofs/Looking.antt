@@ -2,12 +2,14 @@
 --   looked_of            what the node's type hides
 --   none_due_yet         before the clock that is kept no job is due, and nothing is abandoned
 --   none_before_expired  abandoning opens no job
+--   lines_from, count_from, looks_from   abandoning looks at the lines from the first open one on
 --   worked_looks, opened_looks   after a turn's unit, and after a release
-use Rattle.std.proofs.Common.{◌≡◌, ℕ, zero, suc, ◌+◌, ◌<◌, ◌≤◌, min, Bool, true, false, cond, leb, ◌≢◌, ◌⊎◌, List, [], ◌∷◌, length, get_or, set, sym, refl, ap, ◌∙◌, subst, inl, inr, ⊎_elim, arith, get_or-set_other, get_or-set_same}
+use Rattle.std.proofs.Common.{◌≡◌, ℕ, zero, suc, ◌+◌, ◌-◌, ◌<◌, ◌≤◌, min, Bool, true, false, cond, leb, ◌≢◌, ◌⊎◌, List, [], ◌∷◌, ◌++◌, length, get_or, take, drop, set, sym, refl, ap, ◌∙◌, subst, inl, inr, ⊎_elim, arith, append-nil, length-drop, get_or-drop, get_or-set_other, get_or-set_same}
 use mathlib.Core.Logic.{∥∥₁_elim}
 use mathlib.Core.HLevel.{⊥_prop}
 use native.Mathlib.Bridge.{le_prop}
 use Rattle.std.proofs.lemmas.Bool.{cases_lt}
+use Rattle.std.proofs.lemmas.List.{drop_all, take_rest}
 use Rattle.std.proofs.lemmas.Bool.Decides.{nat_tests}
 use Rattle.model.specs.declared.task.Task.{Task}
 use Rattle.model.specs.declared.state.Line.{Line}
@@ -18,7 +20,7 @@ use Rattle.node.specs.declared.ahead.Ahead.{Ahead}
 use Rattle.node.specs.declared.turn.Turn.{Turn}
 use Rattle.node.specs.declared.turn.Turn.TheVariants.{Idle, Waits, Runs}
 use Rattle.node.specs.Ahead.{NoneBefore, NoneDueBefore, LooksAhead}
-use Rattle.node.proofs.Lines.{none_before_worked}
+use Rattle.node.proofs.Lines.{none_before_worked, walked_from}
 use Rattle.node.specs.Turns.{job_said, turn_said, CandidateStands, open_from, BeginAt, turn_job}
 
 pub looked_of : (a : Ahead) (ts : List Task) (ls : List Line) → ∥ LooksAhead a ts ls ∥₁ → LooksAhead a ts ls
@@ -60,6 +62,43 @@ expired_open clock (t ∷ ts) (l ∷ ls) (suc k) r u d e = expired_open clock ts
 
 pub none_before_expired : (i clock : ℕ) (ts : List Task) (ls : List Line) → NoneBefore i ls → NoneBefore i (expired clock ts ls)
 none_before_expired i clock ts ls none k below r u d e = none k below r u d (expired_open clock ts ls k r u d e)
+
+-- a search from the first open job on sees all of them
+none_due_from : (i limit : ℕ) (ts : List Task) (ls : List Line) → NoneBefore i ls → NoneDueBefore limit (drop i ts) (drop i ls) →
+    NoneDueBefore limit ts ls
+none_due_from i limit ts ls none later k below r u d e =
+    ⊎_elim
+    (λ lt. absurd (none k lt r u d e))
+    (λ le.
+    let place : i + (k - i) ≡ k = omega arith in
+    let line = get_or-drop i ls (k - i) Never ∙ ap (λ j. get_or ls j Never) place in
+    let task = get_or-drop i ts (k - i) no_task ∙ ap (λ j. get_or ts j no_task) place in
+    let within : k - i < length (drop i ts) = omega (arith, length-drop i ts) in
+    subst (λ (t : Task). limit ≤ r + t.deadline) task (later (k - i) within r u d (line ∙ e)))
+    (cases_lt k i)
+
+-- what is done to the lines from the first open one on, and told of them, is done to all and told of all
+module _ (i clock : ℕ) (ts : List Task) (ls : List Line) (listed : i ≤ length ts) (sizes : length ts ≤ length ls) (none : NoneBefore i ls) where
+  pub lines_from : (ms : List Line) → ms ≡ expired clock (take (length ts - i) (drop i ts)) (take (length ls - i) (drop i ls)) →
+      take i ls ++ (ms ++ drop (length ls - i) (drop i ls)) ≡ expired clock ts ls
+  lines_from ms e =
+      let walked = walked_from clock ts ls i listed (omega arith) none in
+      let all : drop (length ls - i) (drop i ls) ≡ [] = drop_all _ (drop i ls) (omega (arith, length-drop i ls)) in
+      rw (all, append-nil, e, take_rest ts i, take_rest ls i) (sym walked.0)
+
+  pub count_from : (count : ℕ) → count ≡ abandoned clock (take (length ts - i) (drop i ts)) (take (length ls - i) (drop i ls)) →
+      count ≡ abandoned clock ts ls
+  count_from count e =
+      let walked = walked_from clock ts ls i listed (omega arith) none in
+      let told : count ≡ abandoned clock (drop i ts) (drop i ls) = rw (take_rest ts i, take_rest ls i) at e in
+      omega (arith, told, walked.1)
+
+  pub looks_from : (limit : ℕ) (ms : List Line) → ms ≡ expired clock ts ls →
+      NoneDueBefore limit (take (length ts - i) (drop i ts)) (take (length ms - i) (drop i ms)) → NoneBefore i ms × NoneDueBefore limit ts ms
+  looks_from limit ms e later =
+      let kept : NoneBefore i ms = subst (λ (x : List Line). NoneBefore i x) (sym e) (none_before_expired i clock ts ls none) in
+      let told : NoneDueBefore limit (drop i ts) (drop i ms) = rw (take_rest ts i, take_rest ms i) at later in
+      (kept, none_due_from i limit ts ms kept told)
 
 -- One line that changes
 

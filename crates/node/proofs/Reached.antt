@@ -1,8 +1,9 @@
 -- What is true of a node's state, where the history that reached it is hidden, and how that history goes on.
 --   started_at    a start at a lawful level
 --   released_to, slotted_to   one call more
+--   lines_of      there is a line for each task
 --   met_of, within_of   each closed job of an accepted table was finished, within its task's safe bound
-use Rattle.std.proofs.Common.{◌≡◌, ℕ, ◌<◌, get_or, Some, None, Option, arith}
+use Rattle.std.proofs.Common.{◌≡◌, ℕ, ◌<◌, ◌≤◌, length, get_or, Some, None, Option, arith}
 use mathlib.Core.Logic.{∥∥₁_elim}
 use mathlib.Core.HLevel.{Unit-prop}
 use native.Mathlib.Bridge.{le_prop}
@@ -16,6 +17,7 @@ use Rattle.model.specs.Orders.{report_of}
 use Rattle.model.specs.OnTime.{AtMost}
 use Rattle.model.specs.Histories.{History, fresh, started}
 use Rattle.model.proofs.Reached as go_on
+use Rattle.model.proofs.Reached.{wide_of}
 use Rattle.model.proofs.DeadlineTheorem.{accepted_never_late, accepted_within_bounds}
 use Rattle.table.specs.declared.table.Table.{Table}
 use Rattle.table.specs.Tables.{task_list, setup_of}
@@ -37,6 +39,9 @@ module _ (table : Table) (s : State) (e : ∥ History (setup_of table) table.rat
   pub slotted_to : (harvest : ℕ) (t : State) → s.clock < clock_end → Harvest table.rate harvest → t ≡ slot_step (setup_of table) s harvest →
       ∥ History (setup_of table) table.rate t ∥₁
   slotted_to harvest t room law p = go_on.slotted_to (setup_of table) table.rate s t e harvest law room p
+
+  pub lines_of : length (task_list table) ≤ length s.lines
+  lines_of = let lawful = setup_lawful table in omega (arith, wide_of (setup_of table) lawful table.rate s e, lawful.tasked.few)
 
   pub met_of : Accepted table.rate (task_list table) → s.closed ≡ s.finished
   met_of accepted =

@@ -1,7 +1,6 @@
 // A node over any harvester: its table, its state, and the calls that change it.
 #![tactic(auto)]
 
-mod advance;
 mod ahead;
 pub mod laws;
 pub mod node;

@@ -3,8 +3,8 @@ ghost use Rattle.std.specs.Prelude.{◌≡◌, ℕ, ◌<◌, ◌≤◌, ◌≢�
 ghost use Rattle.model.specs.declared.refusal.Refusal.TheVariants.{PromiseTooLow};
 ghost use Rattle.model.specs.Windows.{Accepted};
 ghost use Rattle.model.specs.Energy.{Harvest, LawfulLevel};
-ghost use Rattle.model.specs.Slots.{slot_step, slot_answer};
-ghost use Rattle.model.specs.Releases.{release_refusal, release_step};
+ghost use Rattle.model.specs.Slots.{turn_of, slot_step, slot_answer};
+ghost use Rattle.model.specs.Releases.{clock_end, release_refusal, release_step};
 ghost use Rattle.model.specs.Orders.{slots_refusal, Run, Slotted, Obeyed, Driven, report_of};
 ghost use Rattle.model.specs.Amounts.{RunBy, SlottedBy, ObeyedBy, DrivenBy};
 ghost use Rattle.model.specs.Histories.{History, fresh};
@@ -13,12 +13,16 @@ ghost use Rattle.table.specs.Tables.{setup_of, task_list};
 ghost use Rattle.node.specs.Ahead.{LooksAhead};
 ghost use Rattle.node.specs.Outcomes.{refusal_said};
 ghost use Rattle.node.specs.Starts.{IsNotStarted};
+ghost use Rattle.node.specs.Turns.{turn_said};
 ghost use Rattle.node.specs.Marks.{refusals, Unmarked, no_order};
 ghost use Rattle.node.specs.Reports.{ResponsesWithin};
 
-use crate::advance::advance;
 use crate::ahead::Ahead;
-use crate::release::{CLOCK_END, release_into};
+use crate::release::{CLOCK_END, is_early, is_within};
+use crate::scan::{candidate, due_clock};
+use crate::store::Store;
+use crate::turn::Turn;
+use crate::work::work;
 use harvest::harvester::Harvester;
 use model::order::{Ask, Order, Report};
 use model::refusal::Refusal;
@@ -108,14 +112,33 @@ impl<H: Harvester> Node<H> {
         ensures table { self.new.table ≡ self.old.table }
         ensures harvester { self.new.harvester ≡ self.old.harvester }
     {
-        release_into(
-            &self.table,
-            &mut self.state,
-            &mut self.ahead,
-            task,
-            units,
+        let tasks = self.table.tasks();
+        let number = usize::from(task);
+        if number < 1 || number > tasks.len() {
+            return Err(Refusal::NoSuchTask);
+        }
+        let index = number - 1;
+        if !is_within(&tasks[index], units, draw) {
+            return Err(Refusal::OutsideTask);
+        }
+        if self.state.clock >= CLOCK_END {
+            return Err(Refusal::ClockEnd);
+        }
+        if is_early(self.state.clock, &tasks[index], self.state.lines[index]) {
+            return Err(Refusal::TooEarly);
+        }
+        self.state.lines[index] = Line::Open {
+            released: self.state.clock,
+            left: units,
             draw,
-        )
+        };
+        self.state.released += 1;
+        self.ahead.first = self.ahead.first.min(index);
+        self.ahead.due = self
+            .ahead
+            .due
+            .min(due_clock(self.state.clock, &tasks[index]));
+        Ok(())
     }
 
     // Whether a number of slots may be run.
@@ -143,9 +166,56 @@ impl<H: Harvester> Node<H> {
         self.check_slots(count).err()
     }
 
-    // One slot that is not refused.
+    // What the next slot is used for: the most urgent open job runs if the level and what a slot surely brings pay for a unit of its task.
+    fn choose(&self) -> Turn
+        ensures { turn_said result ≡ turn_of (setup_of self.now.table) self.now.state }
+    {
+        let first = self.ahead.first;
+        let tasks = &self.table.tasks()[first..];
+        let Some(job) = candidate(first, tasks, &self.state.lines[first..]) else {
+            return Turn::Idle;
+        };
+        if job.task.draw + self.table.floor() <= self.state.level + u64::from(self.table.rate()) {
+            Turn::Runs { job }
+        } else {
+            Turn::Waits { job }
+        }
+    }
+
+    // One slot with what the harvester brings in it.
+    fn advance(&mut self, harvest: u32) -> SlotAnswer
+        requires harvest { Harvest self.old.table.rate harvest }
+        requires clock { self.old.state.clock < clock_end }
+        ensures state { self.new.state ≡ slot_step (setup_of self.old.table) self.old.state harvest }
+        ensures answer { result ≡ slot_answer (setup_of self.old.table) self.old.state harvest }
+        ensures table { self.new.table ≡ self.old.table }
+        ensures harvester { self.new.harvester ≡ self.old.harvester }
+    {
+        let turn = self.choose();
+        let draw = turn.draw();
+        let tasks = self.table.tasks();
+        self.ahead.first = turn.first_open(tasks.len());
+        let store = Store::new(self.state.level, self.table.floor(), self.table.cap());
+        let activity = work(turn, &mut self.state);
+        self.state.level = store.put(harvest, draw).level();
+        self.state.clock += 1;
+        let abandoned = self
+            .ahead
+            .pass_deadlines(self.state.clock, tasks, &mut self.state.lines);
+        self.state.closed += u64::from(abandoned);
+        SlotAnswer {
+            activity,
+            harvest,
+            draw,
+            level: self.state.level,
+            abandoned,
+        }
+    }
+
+    // One slot that is not refused. A loop of slots is a third slower or more where it is a call.
+    #[inline(always)]
     fn step(&mut self) -> SlotAnswer
-        requires { (self.old.table.rate ≤ H.Harvester.promised self.old.harvester) × (self.old.state.clock < 4000000000) }
+        requires { (self.old.table.rate ≤ H.Harvester.promised self.old.harvester) × (self.old.state.clock < clock_end) }
         ensures state { self.new.state ≡
             slot_step (setup_of self.old.table) self.old.state (H.Harvester.coming self.old.harvester) }
         ensures answer { result ≡
@@ -156,7 +226,7 @@ impl<H: Harvester> Node<H> {
         ensures promise { H.Harvester.promised self.new.harvester ≡ H.Harvester.promised self.old.harvester }
     {
         let harvest = bring(&mut self.harvester);
-        advance(&self.table, &mut self.state, &mut self.ahead, harvest)
+        self.advance(harvest)
     }
 
     // One slot: the most urgent open job runs as soon as the store pays for its next unit.

@@ -42,9 +42,7 @@ pub(crate) fn work(turn: Turn, state: &mut State) -> Activity
 {
     match turn {
         Turn::Idle => Activity::Idle,
-        Turn::Waits { job } => Activity::Waited {
-            task: job.number(),
-        },
+        Turn::Waits { job } => Activity::Waited { task: job.number() },
         Turn::Runs { job } => {
             let progress = run_unit(&job, state);
             Activity::Ran {
