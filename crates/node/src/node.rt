@@ -191,11 +191,11 @@ impl<H: Harvester> Node<H> {
         ensures table { self.new.table ≡ self.old.table }
         ensures harvester { self.new.harvester ≡ self.old.harvester }
     {
+        let store = Store::new(self.state.level, self.table.floor(), self.table.cap());
         let turn = self.choose();
         let draw = turn.draw();
         let tasks = self.table.tasks();
         self.ahead.first = turn.first_open(tasks.len());
-        let store = Store::new(self.state.level, self.table.floor(), self.table.cap());
         let activity = work(turn, &mut self.state);
         self.state.level = store.put(harvest, draw).level();
         self.state.clock += 1;

@@ -75,8 +75,8 @@ overflow_add-self-2 g c =
     let after = ap (λ (x : State). x.closed) c.work-activity.ensures.state in
     omega (arith, closed, after, c.requires.clock, c.from.ensures, c.pass_deadlines-abandoned.type_inv, one_at_most (ends (turn_said c.choose-turn.result)))
 
-pub invariant_of-self : goal.invariant_of-self
-invariant_of-self g c =
+pub invariant_of-self-3 : goal.invariant_of-self-3
+invariant_of-self-3 g c =
     let node = c.args.self.now in
     let n = setup_of node.table in
     let tasks = c.tasks-tasks.ensures.value in
