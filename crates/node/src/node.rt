@@ -220,7 +220,6 @@ impl<H: Harvester> Node<H> {
             slot_step (setup_of self.old.table) self.old.state (H.Harvester.coming self.old.harvester) }
         ensures answer { result ≡
             slot_answer (setup_of self.old.table) self.old.state (H.Harvester.coming self.old.harvester) }
-        ensures brought { Harvest (H.Harvester.promised self.old.harvester) (H.Harvester.coming self.old.harvester) }
         ensures once { H.Harvester.taken self.old.harvester self.new.harvester }
         ensures table { self.new.table ≡ self.old.table }
         ensures promise { H.Harvester.promised self.new.harvester ≡ H.Harvester.promised self.old.harvester }
@@ -345,7 +344,6 @@ fn bring<H: Harvester>(harvester: &mut H) -> u32
     ensures amount { result ≡ H.Harvester.coming harvester.old }
     ensures once { H.Harvester.taken harvester.old harvester.new }
     ensures same { H.Harvester.promised harvester.new ≡ H.Harvester.promised harvester.old }
-    ensures law { Harvest (H.Harvester.promised harvester.old) (H.Harvester.coming harvester.old) }
 {
     harvester.take()
 }
