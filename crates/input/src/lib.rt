@@ -1,11 +1,12 @@
-// Reading an input into a buffer.
+// What the programs share: reading an input into a buffer, and the end of a run.
 #![tactic(auto)]
 
-ghost use Rattle.std.specs.Prelude.{◌<◌, ◌≤◌, length, take, IfOk};
+ghost use Rattle.std.specs.Prelude.{◌≡◌, ◌<◌, ◌≤◌, length, take, Ok, IfOk, OnErr};
 ghost use Rattle.std.specs.Io.KnownBytes.{Consumes, IsAtEnd};
 
 use std::io;
 use std::io::Read;
+use std::process::ExitCode;
 
 // Reads until the input ends or the buffer is full, and answers how many bytes came.
 pub fn fill<R: Read>(input: &mut R, buffer: &mut [u8]) -> io::Result<usize>
@@ -13,8 +14,8 @@ pub fn fill<R: Read>(input: &mut R, buffer: &mut [u8]) -> io::Result<usize>
     ensures bytes { IfOk result (λ n. Consumes (R.Read.remaining input.old) (R.Read.remaining input.new) (take n buffer.new)) }
     ensures whole { IfOk result (λ n. n < length buffer.old → IsAtEnd (R.Read.remaining input.new)) }
 {
-    let mut len = 0usize;
-    for _ in 0..buffer.len() {
+    let mut len = 0;
+    while len < buffer.len() {
         let n = input.read(&mut buffer[len..])?;
         if n == 0 {
             return Ok(len);
@@ -22,4 +23,19 @@ pub fn fill<R: Read>(input: &mut R, buffer: &mut [u8]) -> io::Result<usize>
         len += n;
     }
     Ok(len)
+}
+
+// The end of a program's run: trouble is told on standard error, after the program's name.
+pub fn finish(
+    rt: &impl Eprint,
+    program: &str,
+    run: anyhow::Result<ExitCode>,
+) -> anyhow::Result<ExitCode>
+    ensures done { IfOk run (λ code. result ≡ Ok code) }
+    ensures trouble { OnErr run (IfOk result (λ code. code ≡ ExitCode.FAILURE)) }
+{
+    run.or_else(|trouble| {
+        eprintln!(rt; "{program}: {trouble}")?;
+        Ok(ExitCode::FAILURE)
+    })
 }

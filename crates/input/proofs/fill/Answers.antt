@@ -4,8 +4,8 @@ use Rattle.std.proofs.KnownBytes.{Consumes-trans}
 use Rattle.input.proofs.Parts.{front_more}
 use Rattle.input.proofs.fill.Goals as goal
 
-pub loop-preserved : goal.loop-preserved
-loop-preserved g c =
-    let inv = c.loop.invariant in
-    let more = front_more c.loop.len _ c.in_ok-n.n c.loop.buffer c.read.new.buf inv.1 c.in_ok-n.ensures.bound.0 in
-    (search rules, search rules, subst (Consumes _ _) (sym more) (Consumes-trans _ _ _ _ _ inv.2 c.in_ok-n.ensures.bytes.0))
+pub loop-len-preserved : goal.loop-len-preserved
+loop-len-preserved g c =
+    let inv = c.loop-len.invariant in
+    let more = front_more c.loop-len.len _ c.in_ok-n.n c.loop-len.buffer c.read.new.buf inv.0 c.in_ok-n.ensures.bound.0 in
+    (search rules, subst (Consumes _ _) (sym more) (Consumes-trans _ _ _ _ _ inv.1 c.in_ok-n.ensures.bytes.0))
