@@ -5,10 +5,15 @@ use input::fill;
 use std::fs::File;
 use std::io;
 
-// Reads the front of a file, and answers how many bytes came.
-pub(crate) fn read_front(rt: &HostRuntime, path: &str, buffer: &mut [u8]) -> io::Result<usize>
-    ensures { IfOk result (λ n. n ≤ length buffer.old) }
+// Reads the front of a file into a buffer, and answers the part that was filled.
+pub(crate) fn read_front<'a>(
+    rt: &HostRuntime,
+    path: &str,
+    buffer: &'a mut [u8],
+) -> io::Result<&'a [u8]>
+    ensures { IfOk result (λ front. length front.now ≤ length buffer.old) }
 {
     let mut file = File::open(rt, path)?;
-    fill(&mut file, buffer)
+    let len = fill(&mut file, buffer)?;
+    Ok(&buffer[..len])
 }

@@ -11,6 +11,8 @@ mod show;
 
 use crate::request::{Asked, asked_for};
 use crate::serve::serve;
+use anyhow::anyhow;
+use input::finish;
 use std::process::ExitCode;
 
 const HELP: &str = "usage: noderun [--quiet] TABLE LEVEL HARVESTER < ORDERS
@@ -35,26 +37,18 @@ The exit status is 0 if the table was loaded, the node started and every line wa
 order, done or refused; else 1. Trouble is told on standard error.
 ";
 
-fn help(rt: &HostRuntime) -> anyhow::Result<bool> {
-    rt.print(HELP)?;
-    Ok(true)
+fn main(rt: HostRuntime) -> anyhow::Result<ExitCode> {
+    finish(&rt, "noderun", answer(&rt))
 }
 
-fn main(rt: HostRuntime) -> anyhow::Result<ExitCode> {
-    let done = match asked_for(&rt) {
-        Ok(Asked::Help) => help(&rt),
-        Ok(Asked::Run { request }) => serve(&rt, &request),
-        Err(trouble) => {
-            eprintln!(rt; "noderun: {trouble}; try noderun --help")?;
-            return Ok(ExitCode::FAILURE);
+// Does what the arguments ask for.
+fn answer(rt: &HostRuntime) -> anyhow::Result<ExitCode> {
+    let asked = asked_for(rt).map_err(|trouble| anyhow!("{trouble}; try noderun --help"))?;
+    match asked {
+        Asked::Help => {
+            rt.print(HELP)?;
+            Ok(ExitCode::SUCCESS)
         }
-    };
-    match done {
-        Ok(true) => Ok(ExitCode::SUCCESS),
-        Ok(false) => Ok(ExitCode::FAILURE),
-        Err(trouble) => {
-            eprintln!(rt; "noderun: {trouble}")?;
-            Ok(ExitCode::FAILURE)
-        }
+        Asked::Run(request) => serve(rt, &request),
     }
 }

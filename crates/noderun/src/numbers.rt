@@ -1,21 +1,14 @@
 // Decimal numbers without a sign.
+use std::str::FromStr;
 
-// The number that a word writes with digits alone, where it is below 2^64.
-pub(crate) fn number(word: &str) -> Option<u64> {
-    if word.as_bytes().first() == Some(&b'+') {
+// The number that a word writes with digits alone, where it fits.
+pub(crate) fn number<T: FromStr>(word: &str) -> Option<T>
+where
+    T::Err: Drop,
+{
+    // parse takes a plus sign too
+    if word.starts_with('+') {
         return None;
     }
-    word.parse::<u64>().ok()
-}
-
-pub(crate) fn number_u32(word: &str) -> Option<u32> {
-    u32::try_from(number(word)?).ok()
-}
-
-pub(crate) fn number_u16(word: &str) -> Option<u16> {
-    u16::try_from(number(word)?).ok()
-}
-
-pub(crate) fn number_u8(word: &str) -> Option<u8> {
-    u8::try_from(number(word)?).ok()
+    word.parse().ok()
 }

@@ -1,5 +1,5 @@
 // From a line of the input to an order.
-use crate::numbers::{number, number_u8, number_u16, number_u32};
+use crate::numbers::number;
 use model::order::Ask;
 use std::str::from_utf8;
 
@@ -11,29 +11,22 @@ pub(crate) fn ask_of(line: &[u8]) -> Option<Ask> {
     if line.len() > LONGEST {
         return None;
     }
-    match from_utf8(line) {
-        Ok(text) => read_ask(text),
-        Err(_) => None,
-    }
+    read_ask(from_utf8(line).ok()?)
 }
 
 // Reads `release TASK UNITS DRAW` or `slots N`, with single spaces.
 fn read_ask(text: &str) -> Option<Ask> {
     let mut words = text.split(' ');
-    let verb = words.next()?;
-    let ask = if verb == "release" {
-        let task = number_u8(words.next()?)?;
-        let units = number_u16(words.next()?)?;
-        let draw = number(words.next()?)?;
-        Ask::Release { task, units, draw }
-    } else if verb == "slots" {
-        let count = number_u32(words.next()?)?;
-        Ask::Slots { count }
-    } else {
-        return None;
+    let ask = match words.next()? {
+        "release" => Ask::Release {
+            task: number(words.next()?)?,
+            units: number(words.next()?)?,
+            draw: number(words.next()?)?,
+        },
+        "slots" => Ask::Slots {
+            count: number(words.next()?)?,
+        },
+        _ => return None,
     };
-    match words.next() {
-        None => Some(ask),
-        Some(_) => None,
-    }
+    words.next().is_none().then_some(ask)
 }

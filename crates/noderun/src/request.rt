@@ -1,6 +1,6 @@
 // What the arguments ask for.
-use crate::numbers::{number, number_u16, number_u32};
-use anyhow::anyhow;
+use crate::numbers::number;
+use anyhow::{Context, bail, ensure};
 use std::alloc::Global;
 use std::env;
 
@@ -10,7 +10,7 @@ const MOST_SAMPLES: usize = 64;
 #[derive(Drop)]
 pub(crate) enum Asked {
     Help,
-    Run { request: Request },
+    Run(Request),
 }
 
 // A run: its table file, the level at the start, the source of energy, and whether slots are left out.
@@ -25,7 +25,7 @@ pub(crate) struct Request {
 // What brings the energy.
 #[derive(Drop)]
 pub(crate) enum Source {
-    Alone { single: Single },
+    Alone(Single),
     Converter { factor: u16, single: Single },
     Pair { amount: u32, samples: Vec<u32> },
 }
@@ -39,101 +39,56 @@ pub(crate) enum Single {
 // What the arguments of this run ask for.
 pub(crate) fn asked_for(rt: &HostRuntime) -> anyhow::Result<Asked> {
     let heap = rt.alloc();
-    let mut words = Vec::new(heap);
-    for argument in env::args(rt)?.skip(1) {
-        words.push(argument)?;
-    }
-    asked_by(heap, words.as_slice())
-}
-
-fn asked_by(heap: Global, words: &[String]) -> anyhow::Result<Asked> {
-    if words.len() == 1 && word(words, 0) == "--help" {
-        return Ok(Asked::Help);
-    }
-    let quiet = word(words, 0) == "--quiet";
-    let rest = if quiet { after(words, 1) } else { words };
-    let request = request_of(heap, quiet, rest)?;
-    Ok(Asked::Run { request })
-}
-
-// The word at an index, or no text where there is none.
-fn word(words: &[String], index: usize) -> &str {
-    match words.get(index) {
-        Some(word) => word.as_str(),
-        None => "",
+    let arguments: Vec<String> = env::args(rt)?.skip(1).collect(heap)?;
+    let words: Vec<&str> = arguments.iter().map(String::as_str).collect(heap)?;
+    match words.as_slice() {
+        ["--help"] => Ok(Asked::Help),
+        ["--quiet", rest @ ..] => Ok(Asked::Run(request_of(heap, true, rest)?)),
+        words => Ok(Asked::Run(request_of(heap, false, words)?)),
     }
 }
 
-// The words from an index on, if there are any.
-fn after(words: &[String], index: usize) -> &[String] {
-    &words[index.min(words.len())..]
+fn request_of(heap: Global, quiet: bool, words: &[&str]) -> anyhow::Result<Request> {
+    match words {
+        [table, level, source @ ..] if source.len() >= 2 => Ok(Request {
+            quiet,
+            table: String::from_str(heap, table)?,
+            level: number(level).context("the level is no number that fits")?,
+            source: source_of(heap, source)?,
+        }),
+        _ => bail!("arguments are missing"),
+    }
 }
 
-fn request_of(heap: Global, quiet: bool, words: &[String]) -> anyhow::Result<Request> {
-    if words.len() < 4 {
-        return Err(anyhow!("arguments are missing"));
+fn source_of(heap: Global, words: &[&str]) -> anyhow::Result<Source> {
+    match words {
+        ["converter", factor, single @ ..] => Ok(Source::Converter {
+            factor: number(factor).context("the factor is no number that fits")?,
+            single: single_of(heap, single)?,
+        }),
+        ["pair", "steady", amount, "trace", list] => Ok(Source::Pair {
+            amount: amount_of(amount)?,
+            samples: samples_of(heap, list)?,
+        }),
+        ["pair", ..] => bail!("a pair is `pair steady N trace LIST`"),
+        single => Ok(Source::Alone(single_of(heap, single)?)),
     }
-    let table = String::from_str(heap, word(words, 0))?;
-    let Some(level) = number(word(words, 1)) else {
-        return Err(anyhow!("the level is no number that fits"));
-    };
-    let source = source_of(heap, after(words, 2))?;
-    Ok(Request {
-        quiet,
-        table,
-        level,
-        source,
-    })
 }
 
-fn source_of(heap: Global, words: &[String]) -> anyhow::Result<Source> {
-    let kind = word(words, 0);
-    if kind == "converter" {
-        let factor = factor_of(word(words, 1))?;
-        let single = single_of(heap, after(words, 2))?;
-        return Ok(Source::Converter { factor, single });
-    }
-    if kind == "pair" {
-        return pair_of(heap, words);
-    }
-    let single = single_of(heap, words)?;
-    Ok(Source::Alone { single })
-}
-
-fn single_of(heap: Global, words: &[String]) -> anyhow::Result<Single> {
-    let kind = word(words, 0);
-    if kind == "steady" && words.len() == 2 {
-        let amount = amount_of(word(words, 1))?;
-        return Ok(Single::Steady { amount });
-    }
-    if kind == "trace" && words.len() == 2 {
-        let samples = samples_of(heap, word(words, 1))?;
-        return Ok(Single::Trace { samples });
-    }
-    Err(anyhow!("that is no harvester"))
-}
-
-fn pair_of(heap: Global, words: &[String]) -> anyhow::Result<Source> {
-    if words.len() != 5 || word(words, 1) != "steady" || word(words, 3) != "trace" {
-        return Err(anyhow!("a pair is `pair steady N trace LIST`"));
-    }
-    let amount = amount_of(word(words, 2))?;
-    let samples = samples_of(heap, word(words, 4))?;
-    Ok(Source::Pair { amount, samples })
-}
-
-fn factor_of(word: &str) -> anyhow::Result<u16> {
-    match number_u16(word) {
-        Some(factor) => Ok(factor),
-        None => Err(anyhow!("the factor is no number that fits")),
+fn single_of(heap: Global, words: &[&str]) -> anyhow::Result<Single> {
+    match words {
+        ["steady", amount] => Ok(Single::Steady {
+            amount: amount_of(amount)?,
+        }),
+        ["trace", list] => Ok(Single::Trace {
+            samples: samples_of(heap, list)?,
+        }),
+        _ => bail!("that is no harvester"),
     }
 }
 
 fn amount_of(word: &str) -> anyhow::Result<u32> {
-    match number_u32(word) {
-        Some(amount) => Ok(amount),
-        None => Err(anyhow!("an amount is no number that fits")),
-    }
+    number(word).context("an amount is no number that fits")
 }
 
 // The numbers of a list, joined by commas; `none` has no number.
@@ -143,9 +98,10 @@ fn samples_of(heap: Global, list: &str) -> anyhow::Result<Vec<u32>> {
         return Ok(samples);
     }
     for word in list.split(',') {
-        if samples.len() >= MOST_SAMPLES {
-            return Err(anyhow!("a list has at most 64 numbers"));
-        }
+        ensure!(
+            samples.len() < MOST_SAMPLES,
+            "a list has at most {MOST_SAMPLES} numbers"
+        );
         samples.push(amount_of(word)?)?;
     }
     Ok(samples)

@@ -7,26 +7,25 @@ use harvest::converter::Converter;
 use harvest::pair::Pair;
 use harvest::steady::Steady;
 use harvest::trace::Trace;
+use std::process::ExitCode;
 use table::load::load;
 use table::table::Table;
 
-// Loads the table and runs the node; answers whether all went well. A table file has at most 1,024 bytes.
-pub(crate) fn serve(rt: &HostRuntime, request: &Request) -> anyhow::Result<bool> {
+// Loads the table and runs the node. A table file has at most 1,024 bytes.
+pub(crate) fn serve(rt: &HostRuntime, request: &Request) -> anyhow::Result<ExitCode> {
     let path = request.table.as_str();
-    let mut file = [0u8; 1024];
-    let len = match read_front(rt, path, &mut file) {
-        Ok(len) => len,
+    let mut buffer = [0u8; 1024];
+    let file = match read_front(rt, path, &mut buffer) {
+        Ok(file) => file,
         Err(trouble) => {
             eprintln!(rt; "noderun: {path}: {trouble}")?;
-            return Ok(false);
+            return Ok(ExitCode::FAILURE);
         }
     };
     let mut table = Table::empty();
-    if let Err(fault) = load(&file[0..len], &mut table) {
-        let number = fault.refusal.number();
-        let at = fault.at;
-        println!(rt; "refused {number} at {at}")?;
-        return Ok(false);
+    if let Err(fault) = load(file, &mut table) {
+        println!(rt; "refused {} at {}", fault.refusal.number(), fault.at)?;
+        return Ok(ExitCode::FAILURE);
     }
     let plan = Plan {
         table,
@@ -38,9 +37,9 @@ pub(crate) fn serve(rt: &HostRuntime, request: &Request) -> anyhow::Result<bool>
 }
 
 // Runs the plan over the harvester that is asked for.
-fn run_over(rt: &HostRuntime, plan: &Plan, source: &Source) -> anyhow::Result<bool> {
+fn run_over(rt: &HostRuntime, plan: &Plan, source: &Source) -> anyhow::Result<ExitCode> {
     match source {
-        Source::Alone { single } => run_alone(rt, plan, single),
+        Source::Alone(single) => run_alone(rt, plan, single),
         Source::Converter { factor, single } => run_converter(rt, plan, *factor, single),
         Source::Pair { amount, samples } => {
             let first = Steady::new(*amount);
@@ -50,7 +49,7 @@ fn run_over(rt: &HostRuntime, plan: &Plan, source: &Source) -> anyhow::Result<bo
     }
 }
 
-fn run_alone(rt: &HostRuntime, plan: &Plan, single: &Single) -> anyhow::Result<bool> {
+fn run_alone(rt: &HostRuntime, plan: &Plan, single: &Single) -> anyhow::Result<ExitCode> {
     match single {
         Single::Steady { amount } => run(rt, plan, Steady::new(*amount)),
         Single::Trace { samples } => run(rt, plan, Trace::new(samples.as_slice())),
@@ -62,7 +61,7 @@ fn run_converter(
     plan: &Plan,
     factor: u16,
     single: &Single,
-) -> anyhow::Result<bool> {
+) -> anyhow::Result<ExitCode> {
     match single {
         Single::Steady { amount } => {
             let inner = Steady::new(*amount);

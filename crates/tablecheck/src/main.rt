@@ -22,11 +22,11 @@ is refused, or if there is trouble with the input or the output.
 ";
 
 fn main(rt: HostRuntime) -> anyhow::Result<ExitCode> {
-    finish(&rt, "tablecheck", run(&rt))
+    finish(&rt, "tablecheck", answer(&rt))
 }
 
 // Does what the arguments ask for.
-fn run(rt: &HostRuntime) -> anyhow::Result<ExitCode> {
+fn answer(rt: &HostRuntime) -> anyhow::Result<ExitCode> {
     let arguments: Vec<String> = env::args(rt)?.skip(1).collect(rt.alloc())?;
     match arguments.as_slice() {
         [] => check(rt),
