@@ -1,11 +1,14 @@
 // What the arguments ask for.
 use crate::numbers::number;
 use anyhow::{Context, bail, ensure};
+use arrayvec::ArrayVec;
 use std::alloc::Global;
 use std::env;
 
 // The most samples that a list has.
 const MOST_SAMPLES: usize = 64;
+
+type Samples = ArrayVec<u32, MOST_SAMPLES>;
 
 #[derive(Drop)]
 pub(crate) enum Asked {
@@ -27,13 +30,13 @@ pub(crate) struct Request {
 pub(crate) enum Source {
     Alone(Single),
     Converter { factor: u16, single: Single },
-    Pair { amount: u32, samples: Vec<u32> },
+    Pair { amount: u32, samples: Samples },
 }
 
 #[derive(Drop)]
 pub(crate) enum Single {
     Steady { amount: u32 },
-    Trace { samples: Vec<u32> },
+    Trace { samples: Samples },
 }
 
 // What the arguments of this run ask for.
@@ -54,36 +57,44 @@ fn request_of(heap: Global, quiet: bool, words: &[&str]) -> anyhow::Result<Reque
             quiet,
             table: String::from_str(heap, table)?,
             level: number(level).context("the level is no number that fits")?,
-            source: source_of(heap, source)?,
+            source: Source::try_from(source)?,
         }),
         _ => bail!("arguments are missing"),
     }
 }
 
-fn source_of(heap: Global, words: &[&str]) -> anyhow::Result<Source> {
-    match words {
-        ["converter", factor, single @ ..] => Ok(Source::Converter {
-            factor: number(factor).context("the factor is no number that fits")?,
-            single: single_of(heap, single)?,
-        }),
-        ["pair", "steady", amount, "trace", list] => Ok(Source::Pair {
-            amount: amount_of(amount)?,
-            samples: samples_of(heap, list)?,
-        }),
-        ["pair", ..] => bail!("a pair is `pair steady N trace LIST`"),
-        single => Ok(Source::Alone(single_of(heap, single)?)),
+impl TryFrom<&[&str]> for Source {
+    type Error = anyhow::Error;
+
+    fn try_from(words: &[&str]) -> anyhow::Result<Source> {
+        match words {
+            ["converter", factor, single @ ..] => Ok(Source::Converter {
+                factor: number(factor).context("the factor is no number that fits")?,
+                single: Single::try_from(single)?,
+            }),
+            ["pair", "steady", amount, "trace", list] => Ok(Source::Pair {
+                amount: amount_of(amount)?,
+                samples: samples_of(list)?,
+            }),
+            ["pair", ..] => bail!("a pair is `pair steady N trace LIST`"),
+            single => Ok(Source::Alone(Single::try_from(single)?)),
+        }
     }
 }
 
-fn single_of(heap: Global, words: &[&str]) -> anyhow::Result<Single> {
-    match words {
-        ["steady", amount] => Ok(Single::Steady {
-            amount: amount_of(amount)?,
-        }),
-        ["trace", list] => Ok(Single::Trace {
-            samples: samples_of(heap, list)?,
-        }),
-        _ => bail!("that is no harvester"),
+impl TryFrom<&[&str]> for Single {
+    type Error = anyhow::Error;
+
+    fn try_from(words: &[&str]) -> anyhow::Result<Single> {
+        match words {
+            ["steady", amount] => Ok(Single::Steady {
+                amount: amount_of(amount)?,
+            }),
+            ["trace", list] => Ok(Single::Trace {
+                samples: samples_of(list)?,
+            }),
+            _ => bail!("that is no harvester"),
+        }
     }
 }
 
@@ -92,17 +103,17 @@ fn amount_of(word: &str) -> anyhow::Result<u32> {
 }
 
 // The numbers of a list, joined by commas; `none` has no number.
-fn samples_of(heap: Global, list: &str) -> anyhow::Result<Vec<u32>> {
-    let mut samples = Vec::new(heap);
+fn samples_of(list: &str) -> anyhow::Result<Samples> {
+    let mut samples = Samples::new();
     if list == "none" {
         return Ok(samples);
     }
     for word in list.split(',') {
         ensure!(
-            samples.len() < MOST_SAMPLES,
+            !samples.is_full(),
             "a list has at most {MOST_SAMPLES} numbers"
         );
-        samples.push(amount_of(word)?)?;
+        samples.push(amount_of(word)?);
     }
     Ok(samples)
 }

@@ -1,8 +1,9 @@
-// From a request to a run: the table is loaded and the harvester made.
+// From a request to a run: the table is loaded and assessed.
 use crate::file::read_front;
 use crate::request::{Request, Single, Source};
 use crate::run::{Plan, run};
 use analysis::assess::assess;
+use either::Either;
 use harvest::converter::Converter;
 use harvest::pair::Pair;
 use harvest::steady::Steady;
@@ -11,7 +12,7 @@ use std::process::ExitCode;
 use table::load::load;
 use table::table::Table;
 
-// Loads the table and runs the node. A table file has at most 1,024 bytes.
+// Loads the table and runs the node over its harvester. A table file has at most 1,024 bytes.
 pub(crate) fn serve(rt: &HostRuntime, request: &Request) -> anyhow::Result<ExitCode> {
     let path = request.table.as_str();
     let mut buffer = [0u8; 1024];
@@ -24,7 +25,7 @@ pub(crate) fn serve(rt: &HostRuntime, request: &Request) -> anyhow::Result<ExitC
     };
     let mut table = Table::empty();
     if let Err(fault) = load(file, &mut table) {
-        println!(rt; "refused {} at {}", fault.refusal.number(), fault.at)?;
+        println!(rt; "{fault}")?;
         return Ok(ExitCode::FAILURE);
     }
     let plan = Plan {
@@ -33,43 +34,22 @@ pub(crate) fn serve(rt: &HostRuntime, request: &Request) -> anyhow::Result<ExitC
         level: request.level,
         quiet: request.quiet,
     };
-    run_over(rt, &plan, &request.source)
-}
-
-// Runs the plan over the harvester that is asked for.
-fn run_over(rt: &HostRuntime, plan: &Plan, source: &Source) -> anyhow::Result<ExitCode> {
-    match source {
-        Source::Alone(single) => run_alone(rt, plan, single),
-        Source::Converter { factor, single } => run_converter(rt, plan, *factor, single),
+    match &request.source {
+        Source::Alone(single) => run(rt, &plan, harvester_of(single)),
+        Source::Converter { factor, single } => {
+            run(rt, &plan, Converter::new(harvester_of(single), *factor))
+        }
         Source::Pair { amount, samples } => {
             let first = Steady::new(*amount);
             let second = Trace::new(samples.as_slice());
-            run(rt, plan, Pair::new(first, second))
+            run(rt, &plan, Pair::new(first, second))
         }
     }
 }
 
-fn run_alone(rt: &HostRuntime, plan: &Plan, single: &Single) -> anyhow::Result<ExitCode> {
+fn harvester_of(single: &Single) -> Either<Steady, Trace<'_>> {
     match single {
-        Single::Steady { amount } => run(rt, plan, Steady::new(*amount)),
-        Single::Trace { samples } => run(rt, plan, Trace::new(samples.as_slice())),
-    }
-}
-
-fn run_converter(
-    rt: &HostRuntime,
-    plan: &Plan,
-    factor: u16,
-    single: &Single,
-) -> anyhow::Result<ExitCode> {
-    match single {
-        Single::Steady { amount } => {
-            let inner = Steady::new(*amount);
-            run(rt, plan, Converter::new(inner, factor))
-        }
-        Single::Trace { samples } => {
-            let inner = Trace::new(samples.as_slice());
-            run(rt, plan, Converter::new(inner, factor))
-        }
+        Single::Steady { amount } => Either::Left(Steady::new(*amount)),
+        Single::Trace { samples } => Either::Right(Trace::new(samples.as_slice())),
     }
 }

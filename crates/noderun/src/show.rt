@@ -40,14 +40,14 @@ pub(crate) fn show_report<W: Write>(out: &mut W, plan: &Plan, report: &Report) -
         out,
         "clock {clock} level {level} released {released} closed {closed} finished {finished}"
     )?;
-    for (index, (longest, bounds)) in longest.iter().zip(&plan.verdict.bounds).enumerate() {
-        if let Some(name) = plan.table.name(index) {
-            write!(out, "task {} ", index + 1)?;
-            out.write_all(name.as_bytes())?;
-            let longest = Slots(*longest);
-            let bound = Slots(bounds.safe.window);
-            writeln!(out, " longest {longest} bound {bound}")?;
-        }
+    let Plan { table, verdict, .. } = plan;
+    let lines = table.names().iter().zip(longest).zip(&verdict.bounds);
+    for (number, ((name, longest), bounds)) in (1u8..).zip(lines) {
+        write!(out, "task {number} ")?;
+        out.write_all(name.as_bytes())?;
+        let longest = Slots(*longest);
+        let bound = Slots(bounds.safe.window);
+        writeln!(out, " longest {longest} bound {bound}")?;
     }
     Ok(())
 }
