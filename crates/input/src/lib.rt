@@ -25,6 +25,16 @@ pub fn fill<R: Read>(input: &mut R, buffer: &mut [u8]) -> io::Result<usize>
     Ok(len)
 }
 
+// Reads the front of an input into a buffer, and answers the part that it filled.
+pub fn read_front<'a, R: Read>(input: &mut R, buffer: &'a mut [u8]) -> io::Result<&'a [u8]>
+    ensures fits { IfOk result (λ front. length front.now ≤ length buffer.old) }
+    ensures bytes { IfOk result (λ front. Consumes (R.Read.remaining input.old) (R.Read.remaining input.new) front.now) }
+    ensures whole { IfOk result (λ front. length front.now < length buffer.old → IsAtEnd (R.Read.remaining input.new)) }
+{
+    let len = fill(input, buffer)?;
+    Ok(&buffer[..len])
+}
+
 // The end of a program's run: trouble is told on standard error, after the program's name.
 pub fn finish(
     rt: &impl Eprint,

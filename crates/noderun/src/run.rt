@@ -2,7 +2,7 @@
 use crate::orders::ask_of;
 use crate::show::{show_report, show_verdict};
 use analysis::verdict::Verdict;
-use anyhow::anyhow;
+use anyhow::Context;
 use harvest::harvester::Harvester;
 use model::order::{Ask, Order};
 use model::refusal::Refusal;
@@ -117,9 +117,7 @@ impl<H: Harvester, W: Write> Session<H, W> {
     fn show_slots(&mut self, count: u32) -> anyhow::Result<()> {
         let start = u64::from(self.node.report().clock);
         for clock in start..start + u64::from(count) {
-            let Ok(answer) = self.node.slot() else {
-                return Err(anyhow!("a slot is refused"));
-            };
+            let answer = self.node.slot().ok().context("a slot is refused")?;
             writeln!(self.out, "slot {clock} {answer}")?;
         }
         Ok(())

@@ -1,5 +1,5 @@
 // From a request to a run: the table is loaded and assessed.
-use crate::file::read_front;
+use crate::file::read_file;
 use crate::request::{Request, Single, Source};
 use crate::run::{Plan, run};
 use analysis::assess::assess;
@@ -16,7 +16,8 @@ use table::table::Table;
 pub(crate) fn serve(rt: &HostRuntime, request: &Request) -> anyhow::Result<ExitCode> {
     let path = request.table.as_str();
     let mut buffer = [0u8; 1024];
-    let file = match read_front(rt, path, &mut buffer) {
+    // told here, since an error of anyhow would cut a long path short
+    let file = match read_file(rt, path, &mut buffer) {
         Ok(file) => file,
         Err(trouble) => {
             eprintln!(rt; "noderun: {path}: {trouble}")?;

@@ -2,7 +2,7 @@
 #![tactic(auto)]
 
 use anyhow::{Context, bail};
-use input::{fill, finish};
+use input::{finish, read_front};
 use listing::list::listing;
 use std::env;
 use std::io::Write;
@@ -40,10 +40,10 @@ fn answer(rt: &HostRuntime) -> anyhow::Result<ExitCode> {
 
 // Lists the table on standard input.
 fn check(rt: &HostRuntime) -> anyhow::Result<ExitCode> {
-    let mut file = [0u8; 1024];
-    let len = fill(&mut rt.stdin(), &mut file)?;
+    let mut buffer = [0u8; 1024];
+    let file = read_front(&mut rt.stdin(), &mut buffer)?;
     let mut output = [0u8; 1024];
-    let listed = listing(&file[..len], &mut output)
+    let listed = listing(file, &mut output)
         .ok()
         .context("the listing does not fit")?;
     rt.write_all(&output[..listed.length])?;
