@@ -12,6 +12,7 @@ pub enum Ask {
 }
 
 // An order with the mark of its outcome: 0, or the number of a refusal.
+// The mark is a number by a rule of the project, and one that a caller hands in may be any.
 #[derive(Clone, Copy, Debug, PartialEq, Eq)]
 pub struct Order {
     pub ask: Ask,

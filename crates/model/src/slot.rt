@@ -1,6 +1,7 @@
 // What a slot answers.
 use std::fmt;
 
+// How far a job that ran has come: an enum within an enum by a rule of the project, and its names say more than `Option<u32>`.
 #[derive(Clone, Copy, Debug, PartialEq, Eq)]
 pub enum Progress {
     GoesOn,

@@ -21,7 +21,7 @@ pub struct State {
     pub released: u64,
     pub closed: u64,
     pub finished: u64,
-    // a line for each task, and the longest response of its finished jobs
+    // a line for each task, and the longest response of its finished jobs: arrays, since a node has a fixed memory, and two, as a report copies one
     pub lines: [Line; 16],
     pub longest: [Option<u32>; 16],
 }
