@@ -4,12 +4,11 @@
 --   candidate_from    it may start where the open jobs begin
 --   candidate_end     past the last task or line there is none
 --   pair_at           a place of a walk over both
---   none_before_more, none_before_worked   no job is open below an index
+--   none_before_worked   the unit of a turn opens no job before the turn's own
 --   Walked            a walk that abandons each job that is due, up to a line
 --   walked_by, walked_due   one line more, kept or shut
 --   walked_from       a walk may start where the open jobs begin
---   walked_all        past the last task all is done
-use Rattle.std.proofs.Common.{◌≡◌, ℕ, zero, suc, ◌+◌, ◌<◌, ◌≤◌, true, false, cond, ◌≢◌, List, ◌∷◌, ◌++◌, length, min, get_or, take, drop, set, Some, None, ⊎_elim, [], sym, refl, ap, ◌∙◌, subst, append_assoc, add-one, arith, take-append-drop, get_or-set_other, below_more}
+use Rattle.std.proofs.Common.{◌≡◌, ℕ, zero, suc, ◌+◌, ◌<◌, ◌≤◌, true, false, cond, ◌≢◌, List, ◌∷◌, ◌++◌, length, min, get_or, take, drop, set, Some, None, ⊎_elim, [], sym, refl, ap, ◌∙◌, subst, append_assoc, add-one, arith, get_or-set_other}
 use Rattle.std.proofs.lemmas.List.{take_more_set, drop_more, drop-set-lt, drop_all, set-get_or, get_or_default, get_or_past}
 use Rattle.std.proofs.lemmas.Bool.{cases_lt}
 use Rattle.std.proofs.lemmas.List.FromFn.{length-enumerate_from, get_or-enumerate_from}
@@ -84,9 +83,6 @@ pair_at ts ls k i t l within same =
     let both = ap (λ p. p.1) at ∙ get_or-zip ts ls k (t, l) in_ts in_ls in
     (ap (λ p. p.0) at ∙ omega arith, in_ts, in_ls, ap (λ p. p.0) both ∙ get_or_default ts k t no_task in_ts, ap (λ p. p.1) both ∙ get_or_default ls k l Never in_ls)
 
-pub none_before_more : (i : ℕ) (ls : List Line) → NoneBefore i ls → ((r u d : ℕ) → get_or ls i Never ≡ Open r u d → ⊥) → NoneBefore (i + 1) ls
-none_before_more i ls none not = below_more (λ k. (r u d : ℕ) → get_or ls k Never ≡ Open r u d → ⊥) i none not
-
 -- a line at i changes nothing below it
 none_before_set : (i : ℕ) (ls : List Line) (x : Line) → NoneBefore i ls → NoneBefore i (set ls i x)
 none_before_set i ls x none k below r u d e = let ne : k ≢ i = omega arith in none k below r u d (sym (get_or-set_other ls i k x Never ne) ∙ e)
@@ -149,15 +145,6 @@ walked_from clock ts ls (suc i) h k none =
     let before = walked_from clock ts ls i (omega arith) (omega arith) (λ j below. none j (omega arith)) in
     let kept = shut_not_due clock (get_or ts i no_task) (get_or ls i Never) (none i (omega arith)) in
     subst (λ j. Walked clock ts ls ls j 0) (add-one i) (walked_by clock ts ls i (omega arith) (omega arith) ls 0 before kept)
-
--- past the last task all is done and counted
-pub walked_all : (clock : ℕ) (ts : List Task) (ls : List Line) (i : ℕ) → length ts ≤ i →
-    (before : List Line) (count : ℕ) → Walked clock ts before ls i count → (ls ≡ expired clock ts before) × (count ≡ abandoned clock ts before)
-walked_all clock ts ls i h before count w =
-    let none = drop_all i ts h in
-    let lines : take i ls ++ expired clock (drop i ts) (drop i ls) ≡ ls = rw (drop_all i ts h) (take-append-drop i ls) in
-    let counted : abandoned clock (drop i ts) (drop i ls) ≡ 0 = rw (drop_all i ts h) in
-    (sym (w.0 ∙ lines), omega (arith, w.1, counted))
 
 -- the same for lines and a count that are known to be these
 pub walked_as : (clock : ℕ) (ts : List Task) (before : List Line) (i : ℕ) {ls ms : List Line} {a b : ℕ} → ms ≡ ls → b ≡ a →

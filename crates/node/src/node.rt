@@ -71,9 +71,7 @@ impl<H: Harvester> Node<H> {
                 harvester,
             });
         }
-        let floor = table.floor();
-        let cap = table.cap();
-        if level < floor || level > cap {
+        if !(table.floor()..=table.cap()).contains(&level) {
             return Err(NotStarted {
                 refusal: Refusal::LevelOutside,
                 harvester,
@@ -114,7 +112,7 @@ impl<H: Harvester> Node<H> {
     {
         let tasks = self.table.tasks();
         let number = usize::from(task);
-        if number < 1 || number > tasks.len() {
+        if !(1..=tasks.len()).contains(&number) {
             return Err(Refusal::NoSuchTask);
         }
         let index = number - 1;

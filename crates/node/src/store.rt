@@ -1,7 +1,7 @@
 // The store of energy, whose level lies between a floor and a cap.
 ghost use Rattle.std.specs.Prelude.{◌≡◌, ◌+◌, ◌-◌, ◌≤◌, min};
 
-#[derive(Clone, Copy)]
+#[derive(Clone, Copy, Debug, PartialEq, Eq)]
 pub(crate) struct Store {
     level: u64,
     floor: u64,
@@ -23,8 +23,7 @@ impl Store {
 
     // What the store holds.
     pub(crate) fn level(&self) -> u64
-        ensures value { result ≡ self.now.level }
-        ensures limits { (self.now.floor ≤ result) × (result ≤ self.now.cap) }
+        ensures { result ≡ self.now.level }
     {
         self.level
     }

@@ -13,7 +13,7 @@ use Rattle.node.specs.Ahead.{LooksAhead}
 use Rattle.node.proofs.Reached.{slotted_to, lines_of}
 use Rattle.node.proofs.Looking.{looked_of, worked_looks}
 use Rattle.node.proofs.Choosing.{turn_stands, turn_begins, turn_workable}
-use Rattle.node.proofs.Advancing.{state_after, answer_after}
+use Rattle.node.proofs.Advancing.{state_after}
 use Rattle.node.proofs.node.Node.advance.Goals as goal
 
 pub new-store-requires : goal.new-store-requires
@@ -88,20 +88,4 @@ invariant_of-self-3 g c =
     record {
       reached = slotted_to node.table node.state node.reached _ _ c.requires.clock c.requires.harvest to;
       looked = ∣ subst (λ (x : List Task). LooksAhead passed.new.self x passed.new.lines) tasks passed.ensures.ahead ∣₁;
-    }
-
-pub returns : goal.returns
-returns g c =
-    let node = c.args.self.now in
-    let n = setup_of node.table in
-    let tasks = c.tasks-tasks.ensures.value in
-    let passed = c.pass_deadlines-abandoned in
-    let level : c.level-self.result ≡ put_level n node.state.level c.args.harvest c.draw-draw.result = cc in
-    record {
-      state = state_after n node.state c.args.harvest _ c.choose-turn.ensures _ c.work-activity.ensures.state _ tasks _ _ _ c.draw-draw.ensures level
-          (c.from.ensures ∙ passed.ensures.count) _ passed.ensures.lines;
-      answer = answer_after n node.state c.args.harvest _ c.choose-turn.ensures _ c.work-activity.ensures.state _ tasks _ _ _ c.draw-draw.ensures level
-          passed.ensures.count _ c.work-activity.ensures.activity;
-      table = refl;
-      harvester = refl;
     }

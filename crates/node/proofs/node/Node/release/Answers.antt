@@ -1,11 +1,12 @@
-use Rattle.std.proofs.Common.{◌≡◌, ℕ, suc, ◌+◌, ◌-◌, ◌<◌, min, true, false, ltb, List, length, get_or, Some, sym, refl, ap, ◌∙◌, arith, rules}
+use Rattle.std.proofs.Common.{◌≡◌, ℕ, suc, ◌+◌, ◌-◌, ◌<◌, ◌≤◌, min, true, false, ltb, List, length, get_or, Some, sym, refl, ap, ◌∙◌, arith, rules}
 use Rattle.std.proofs.lemmas.Bool.{lt-ltb}
-use Rattle.model.specs.declared.refusal.Refusal.TheVariants.{OutsideTask}
+use Rattle.model.specs.declared.refusal.Refusal.TheVariants.{OutsideTask, TooEarly}
+use Rattle.model.specs.declared.state.Line.TheVariants.{Never}
 use Rattle.model.specs.declared.state.State.{State}
 use Rattle.model.specs.declared.task.Task.{Task}
 use Rattle.model.specs.Tasks.{no_task}
 use Rattle.model.specs.Setups.{Setup}
-use Rattle.model.specs.Releases.{job_fits, release_refusal, release_step}
+use Rattle.model.specs.Releases.{clock_end, job_fits, too_early, release_refusal, release_step}
 use Rattle.model.proofs.Reached.{clock_of, closed_of, released_of}
 use Rattle.table.specs.Tables.{setup_of}
 use Rattle.table.proofs.Setups.{setup_lawful}
@@ -14,14 +15,22 @@ use Rattle.node.proofs.Looking.{looked_of, opened_looks}
 use Rattle.node.proofs.Reached.{released_to, lines_of}
 use Rattle.node.proofs.node.Node.release.Goals as goal
 
--- a job outside the limits of a task that exists is refused, and changes nothing
-module _ (n : Setup) (s : State) (task index units draw : ℕ) (number : task ≡ suc index) (listed : index < length n.tasks)
-    (outside : job_fits (get_or n.tasks index no_task) units draw ≡ false) where
-  refused_outside : Some OutsideTask ≡ release_refusal n s task units draw
-  refused_outside = let b : ltb index (length n.tasks) ≡ true = lt-ltb _ _ listed in rw (number, b, outside)
+-- a job of a task that exists
+module _ (n : Setup) (s : State) (task index units draw : ℕ) (number : task ≡ suc index) (listed : index < length n.tasks) where
+  there : ltb index (length n.tasks) ≡ true
+  there = lt-ltb _ _ listed
 
-  kept_outside : s ≡ release_step n s task units draw
-  kept_outside = let b : ltb index (length n.tasks) ≡ true = lt-ltb _ _ listed in rw (number, b, outside)
+  -- outside the task's limits it is refused, and changes nothing
+  module _ (outside : job_fits (get_or n.tasks index no_task) units draw ≡ false) where
+    refused_outside : Some OutsideTask ≡ release_refusal n s task units draw
+    refused_outside = rw (number, there, outside)
+
+    kept_outside : s ≡ release_step n s task units draw
+    kept_outside = rw (number, there, outside)
+
+  refused_early : job_fits (get_or n.tasks index no_task) units draw ≡ true → s.clock < clock_end →
+      too_early s.clock (get_or n.tasks index no_task) (get_or s.lines index Never) ≡ true → Some TooEarly ≡ release_refusal n s task units draw
+  refused_early fits before early = let b : ltb s.clock clock_end ≡ true = lt-ltb _ _ before in rw (number, there, fits, b, early)
 
 pub returns-then-not-is_within : goal.returns-then-not-is_within
 returns-then-not-is_within g c =
@@ -31,8 +40,9 @@ returns-then-not-is_within g c =
     let units = c.args.units in
     let draw = c.args.draw in
     let tasks = c.tasks-tasks.ensures.value in
-    let number : c.args.task ≡ suc index = omega (arith, c.from-number.ensures, c.if-number-lt1.false) in
-    let listed : index < length n.tasks = omega (arith, ap length tasks, c.if-number-lt1.false, c.if-number-tasks.false) in
+    let inside : (1 ≤ c.from-number.result) × (c.from-number.result ≤ length c.tasks-tasks.result.now) = (search rules, search rules) in
+    let number : c.args.task ≡ suc index = omega (arith, c.from-number.ensures, inside.0, inside.1) in
+    let listed : index < length n.tasks = omega (arith, ap length tasks, inside.0, inside.1) in
     let outside : job_fits (get_or n.tasks index no_task) units draw ≡ false =
     ap (λ (x : List Task). job_fits (get_or x index no_task) units draw) (sym tasks) ∙ sym c.if-not-is_within.ensures in
     record {
@@ -41,6 +51,21 @@ returns-then-not-is_within g c =
       table = refl;
       harvester = refl;
     }
+
+pub returns-then-is_early-clause-refusal : goal.returns-then-is_early-clause-refusal
+returns-then-is_early-clause-refusal g c =
+    let n = setup_of c.args.self.now.table in
+    let s = c.args.self.now.state in
+    let index = c.from-number.result - 1 in
+    let tasks = c.tasks-tasks.ensures.value in
+    let inside : (1 ≤ c.from-number.result) × (c.from-number.result ≤ length c.tasks-tasks.result.now) = (search rules, search rules) in
+    let number : c.args.task ≡ suc index = omega (arith, c.from-number.ensures, inside.0, inside.1) in
+    let listed : index < length n.tasks = omega (arith, ap length tasks, inside.0, inside.1) in
+    let fits : job_fits (get_or n.tasks index no_task) c.args.units c.args.draw ≡ true =
+    ap (λ (x : List Task). job_fits (get_or x index no_task) c.args.units c.args.draw) (sym tasks) ∙ sym c.if-not-is_within.ensures in
+    let early : too_early s.clock (get_or n.tasks index no_task) (get_or s.lines index Never) ≡ true =
+    ap (λ (x : List Task). too_early s.clock (get_or x index no_task) (get_or s.lines index Never)) (sym tasks) ∙ sym c.if-is_early.ensures in
+    refused_early n s _ index c.args.units c.args.draw number listed fits (search rules) early
 
 pub overflow_add-self : goal.overflow_add-self
 overflow_add-self g c =
@@ -57,7 +82,8 @@ invariant_of-self-2 g c =
     let s = node.state in
     let index = c.from-number.result - 1 in
     let tasks = c.tasks-tasks.ensures.value in
-    let listed : index < length n.tasks = omega (arith, ap length tasks, c.if-number-lt1.false, c.if-number-tasks.false) in
+    let inside : (1 ≤ c.from-number.result) × (c.from-number.result ≤ length c.tasks-tasks.result.now) = (search rules, search rules) in
+    let listed : index < length n.tasks = omega (arith, ap length tasks, inside.0, inside.1) in
     let after : Ahead = record { first = c.min-self.result; due = c.min-self-2.result } in
     let due : c.due_clock.result ≡ s.clock + (get_or n.tasks index no_task).deadline =
     c.due_clock.ensures ∙ ap (λ (x : List Task). s.clock + (get_or x index no_task).deadline) tasks in
