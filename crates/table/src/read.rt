@@ -108,7 +108,7 @@ fn read_part<'a>(left: &'a [u8]) -> Result<Option<(Record<'a>, usize)>, Refusal>
 }
 
 // Walks through a file from its front.
-#[derive(Drop)]
+#[derive(Debug, Drop, PartialEq, Eq)]
 pub struct Reader<'a> {
     file: &'a [u8],
     at: usize,
