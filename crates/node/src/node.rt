@@ -30,7 +30,7 @@ use model::slot::SlotAnswer;
 use model::state::{Line, State};
 use table::table::Table;
 
-#[derive(Drop)]
+#[derive(Debug, Drop, PartialEq, Eq)]
 pub struct Node<H> {
     table: Table,
     state: State,
