@@ -1,6 +1,7 @@
 // The unit of a slot, in place.
 ghost use Rattle.std.specs.Prelude.{◌≡◌, ◌<◌, ◌≤◌};
 ghost use Rattle.model.specs.Slots.{runs, activity_of};
+ghost use Rattle.model.specs.Releases.{clock_end};
 ghost use Rattle.node.specs.Turns.{job_said, turn_said, progress_of, Workable, worked_state};
 
 use crate::turn::{Job, Turn};
@@ -11,7 +12,7 @@ use model::state::{Line, State};
 fn run_unit(job: &Job, state: &mut State) -> Progress
     requires place { job.now.index < 16 }
     requires since { job.now.since ≤ state.old.clock }
-    requires counts { (state.old.clock < 4000000000) × ((state.old.closed ≤ 68000000000) × (state.old.finished ≤ 68000000000)) }
+    requires counts { (state.old.clock < clock_end) × ((state.old.closed ≤ 68000000000) × (state.old.finished ≤ 68000000000)) }
     ensures state { state.new ≡ worked_state (runs (job_said job.now)) state.old }
     ensures progress { result ≡ progress_of (job_said job.now) state.old.clock }
 {
@@ -36,7 +37,7 @@ fn run_unit(job: &Job, state: &mut State) -> Progress
 // What the slot is used for, done in place.
 pub(crate) fn work(turn: Turn, state: &mut State) -> Activity
     requires turn { Workable turn state.old }
-    requires counts { (state.old.clock < 4000000000) × ((state.old.closed ≤ 68000000000) × (state.old.finished ≤ 68000000000)) }
+    requires counts { (state.old.clock < clock_end) × ((state.old.closed ≤ 68000000000) × (state.old.finished ≤ 68000000000)) }
     ensures state { state.new ≡ worked_state (turn_said turn) state.old }
     ensures activity { result ≡ activity_of (turn_said turn) state.old.clock }
 {
