@@ -2,7 +2,8 @@
 ghost use Rattle.std.specs.Prelude.{◌≡◌, ◌+◌, ◌^◌, ◌<◌, ◌≤◌, length};
 ghost use Rattle.model.specs.Tasks.{Sized, Timed, Payable, LawfulRate, Each};
 ghost use Rattle.model.specs.Demand.{divide_up, slot_weight, safe_weight, demand, time_curve, greater_curve, safe_curve};
-ghost use Rattle.model.proofs.Curves.{time_curve_rises, time_curve_positive, greater_curve_rises, greater_curve_positive, safe_curve_rises, safe_curve_positive};
+ghost use Rattle.model.proofs.Curves.{time_curve_rises, time_curve_positive, greater_curve_rises, greater_curve_positive};
+ghost use Rattle.model.proofs.Curves.{safe_curve_rises, safe_curve_positive};
 
 use crate::search::{Curve, search};
 use crate::verdict::TaskBounds;

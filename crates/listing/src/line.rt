@@ -9,6 +9,7 @@ ghost use Rattle.listing.specs.Listings.{task_line, IsSmall};
 use crate::text::Text;
 use analysis::verdict::TaskBounds;
 
+// Each line needs another room, so every method asks for its own, and the type has only the room of all.
 impl Text {
     // The line of a task.
     pub(crate) fn put_line(&mut self, name: &[u8], bounds: &TaskBounds)

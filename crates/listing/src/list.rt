@@ -15,6 +15,7 @@ use table::load::load;
 use table::table::Table;
 
 // A listing that was written: the length of its text, and whether the table is accepted.
+// A length, since the text stands in what the caller lends and nothing is allocated.
 #[derive(Clone, Copy, Debug, PartialEq, Eq)]
 pub struct Listed {
     pub length: usize,

@@ -56,6 +56,7 @@ impl<H: Drop> From<NotStarted<H>> for Refusal {
     }
 }
 
+// What a call leaves as it was is said by each call, since no type relates a node to what it was before.
 impl<H: Harvester> Node<H> {
     // A node at its first clock, or the refusal and the harvester as it was.
     pub fn start(table: Table, level: u64, harvester: H) -> Result<Node<H>, NotStarted<H>>
@@ -156,7 +157,7 @@ impl<H: Harvester> Node<H> {
         Ok(())
     }
 
-    // Why a number of slots is refused, if it is.
+    // Why a number of slots is refused, if it is: an Option, since asking can not fail.
     pub fn slots_refused(&self, count: u32) -> Option<Refusal>
         ensures { result ≡ slots_refusal (setup_of self.now.table) (H.Harvester.promised self.now.harvester)
             self.now.state count }
@@ -271,7 +272,7 @@ impl<H: Harvester> Node<H> {
         }
     }
 
-    // One order, done or refused.
+    // One order, done or refused. An order is data that callers keep, so which call it is stays an enum.
     fn obey(&mut self, ask: Ask) -> Result<(), Refusal>
         ensures obeyed { Obeyed (setup_of self.old.table) (H.Harvester.promised self.old.harvester)
             self.old.state ask (refusal_said result) self.new.state }
@@ -302,7 +303,7 @@ impl<H: Harvester> Node<H> {
         Ok(())
     }
 
-    // Does each order in turn, marks it, and says how many were refused.
+    // Does each order in turn, marks it, and says how many were refused, counted in the walk that marks.
     pub fn drive(&mut self, orders: &mut [Order]) -> usize
         ensures driven { Driven (setup_of self.old.table) (H.Harvester.promised self.old.harvester)
             self.old.state orders.old orders.new self.new.state }

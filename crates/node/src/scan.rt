@@ -8,7 +8,8 @@ use crate::turn::Job;
 use model::state::Line;
 use model::task::Task;
 
-// The open job of the smallest index, the indices counted from a first one.
+// The open job of the smallest index, the indices counted from a first one. Here and below tasks and lines come as two slices, since a struct
+// of both would be needed twice: one that lends the lines and one that lets them be written.
 pub(crate) fn candidate(first: usize, tasks: &[Task], lines: &[Line]) -> Option<Job>
     requires { first + length tasks.now ≤ 16 }
     ensures { candidate_said result ≡ most_urgent first tasks.now lines.now }

@@ -10,6 +10,7 @@ const MOST_SAMPLES: usize = 64;
 
 type Samples = ArrayVec<u32, MOST_SAMPLES>;
 
+// No Option, since no request is the wish for help.
 #[derive(Drop)]
 pub(crate) enum Asked {
     Help,

@@ -91,7 +91,7 @@ impl<H: Harvester, W: Write> Session<H, W> {
         Ok(status)
     }
 
-    // Does one order, and prints it with its outcome and its slots.
+    // Does one order, and prints it with its outcome and its slots. Its two forms are the enum that was read and is printed.
     fn obey(&mut self, ask: Ask) -> anyhow::Result<()> {
         self.orders = self.orders.saturating_add(1);
         let number = self.orders;

@@ -35,6 +35,7 @@ pub(crate) fn serve(rt: &HostRuntime, request: &Request) -> anyhow::Result<ExitC
         level: request.level,
         quiet: request.quiet,
     };
+    // a call for each form, as a run has the type of its harvester
     match &request.source {
         Source::Alone(single) => run(rt, &plan, harvester_of(single)),
         Source::Converter { factor, single } => {

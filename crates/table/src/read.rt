@@ -33,7 +33,9 @@ struct Header<'a> {
 }
 
 fn read_header<'a>(left: &'a [u8]) -> Option<Header<'a>>
-    ensures { MatchOption result (length left.now < 4) (λ h. (4 ≤ length left.now) × (h.len ≡ le2 left.now 0) × (h.kind ≡ le2 left.now 2) × (h.rest.now ≡ drop 4 left.now)) }
+    ensures { MatchOption result
+        (length left.now < 4)
+        (λ h. (4 ≤ length left.now) × (h.len ≡ le2 left.now 0) × (h.kind ≡ le2 left.now 2) × (h.rest.now ≡ drop 4 left.now)) }
 {
     // a rule of the project: the four bytes of a header are taken apart by one slice pattern
     let [a, b, c, d, rest @ ..] = left else {
@@ -128,7 +130,9 @@ impl<'a> Reader<'a> {
     pub fn next(&mut self) -> Result<Option<Placed<'a>>, LoadFault>
         ensures said { step_said result self.new.at ≡ step_at self.old.file.now self.old.at }
         ensures file { self.new.file.now ≡ self.old.file.now }
-        ensures place { MatchResult result (λ o. MatchOption o (self.new.at ≡ self.old.at) (λ _. self.old.at < self.new.at)) (λ _. self.new.at ≡ self.old.at) }
+        ensures place { MatchResult result
+            (λ o. MatchOption o (self.new.at ≡ self.old.at) (λ _. self.old.at < self.new.at))
+            (λ _. self.new.at ≡ self.old.at) }
     {
         let at = self.at;
         let part = read_part(&self.file[at..]).map_err(|refusal| LoadFault { refusal, at })?;

@@ -30,7 +30,9 @@ impl Table {
 
     // A table with no tasks, or a refusal of its numbers, which come one by one, as a node's record and callers have them.
     pub fn new(rate: u32, floor: u64, cap: u64) -> Result<Table, Refusal>
-        ensures { MatchResult result (λ t. LawfulNode rate floor cap × (contents_of t ≡ bare rate floor cap)) (λ e. (LawfulNode rate floor cap → ⊥) × (e ≡ OutsideLimits)) }
+        ensures { MatchResult result
+            (λ t. LawfulNode rate floor cap × (contents_of t ≡ bare rate floor cap))
+            (λ e. (LawfulNode rate floor cap → ⊥) × (e ≡ OutsideLimits)) }
     {
         if !(1..=1_000_000_000).contains(&rate) || floor > cap || cap > 8_000_000_000 {
             return Err(Refusal::OutsideLimits);
