@@ -14,6 +14,7 @@ pub fn fill<R: Read>(input: &mut R, buffer: &mut [u8]) -> io::Result<usize>
     ensures bytes { IfOk result (λ n. Consumes (R.Read.remaining input.old) (R.Read.remaining input.new) (take n buffer.new)) }
     ensures whole { IfOk result (λ n. n < length buffer.old → IsAtEnd (R.Read.remaining input.new)) }
 {
+    // counted here, since no method of `Read` fills a buffer, tells how far, and allocates nothing
     let mut len = 0;
     while len < buffer.len() {
         let n = input.read(&mut buffer[len..])?;

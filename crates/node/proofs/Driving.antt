@@ -2,7 +2,7 @@
 --   driven_asks      the asks are as they were
 --   driven_not_9     no mark is 9 where the harvester promises the rate
 --   takes_append     takes one after the other
---   driven_here, marks_more   one order more
+--   driven_more      one order more; driven_here, marks_more, with the amounts of its slots
 use Rattle.std.proofs.Common.{◌≡◌, ℕ, zero, suc, ◌+◌, ◌<◌, ◌≤◌, Bool, true, false, cond, eqb, ltb, List, [], ◌∷◌, ◌++◌, length, get_or, take, drop, set, Some, None, Option, sym, refl, ap, ◌∙◌, subst, append_assoc, arith}
 use Rattle.std.proofs.lemmas.List.{take_more_set, drop_more, drop-set-lt}
 use Rattle.std.proofs.lemmas.Bool.{le-ltb}
@@ -92,6 +92,19 @@ module _ (os₀ os : List Order) (i m : ℕ) (lt₀ : i < length os₀) (lt : i 
 
   pub refusals_more : refusals (take (i + 1) (set os i (marked (get_or os i no_order) m))) ≡ refusals (take i os) + cond (eqb m 0) 0 1
   refusals_more = rw take_more_set (refusals_push (take i os) (marked (get_or os i no_order) m) ∙ omega arith)
+
+  pub driven_more : (n : Setup) (promise : ℕ) (s₀ s t : State) (x : Option Refusal) → m ≡ mark_of x →
+      Obeyed n promise s (get_or os i no_order).ask x t →
+      ((ps : List Order) (u : State) → Driven n promise s (drop i os₀) ps u → Driven n promise s₀ os₀ (take i os ++ ps) u) →
+      (ps : List Order) (u : State) → Driven n promise t (drop (i + 1) os₀) ps u →
+      Driven n promise s₀ os₀ (take (i + 1) (set os i (marked (get_or os i no_order) m)) ++ ps) u
+  driven_more n promise s₀ s t x mark obeyed whole ps u rest =
+      let o = get_or os i no_order in
+      let here = step s t u o x (drop (i + 1) os₀) ps obeyed rest in
+      let a : o ∷ drop (i + 1) os₀ ≡ drop i os₀ = ap (λ y. y ∷ drop (i + 1) os₀) order_same ∙ sym (drop_more os₀ i no_order lt₀) in
+      let b : marked o (mark_of x) ∷ ps ≡ marked o m ∷ ps = ap (λ k. marked o k ∷ ps) (sym mark) in
+      let first = subst (λ y. Driven n promise s y (marked o m ∷ ps) u) a (subst (λ y. Driven n promise s (o ∷ drop (i + 1) os₀) y u) b here) in
+      rw (take_more_set, append_assoc) (whole (marked o m ∷ ps) u first)
 
   pub driven_here : (n : Setup) (promise : ℕ) (s t : State) (x : Option Refusal) (amounts : List ℕ) → m ≡ mark_of x →
       ObeyedBy n promise s (get_or os i no_order).ask x amounts t → (ps : List Order) (later : List ℕ) (u : State) →
