@@ -42,6 +42,7 @@ pub(crate) fn search<C: Curve>(curve: &C, deadline: u32) -> Bound
                 rounds,
             };
         }
+        // no more than the deadline, so nothing is lost
         window = needed as u32;
     }
 }

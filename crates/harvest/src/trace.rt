@@ -49,6 +49,7 @@ impl Harvester for Trace<'_> {
     }
 
     fn take(&mut self) -> u32 {
+        // by an index, which contracts name and an iterator over the samples in turn would hide
         let Some(&amount) = self.samples.get(self.index) else {
             return 0;
         };

@@ -8,6 +8,9 @@ use std::io;
 use std::io::Read;
 use std::process::ExitCode;
 
+// The most bytes that the programs read of a table file.
+pub const MOST_BYTES: usize = 1024;
+
 // Reads until the input ends or the buffer is full, and answers how many bytes came.
 pub fn fill<R: Read>(input: &mut R, buffer: &mut [u8]) -> io::Result<usize>
     ensures fits { IfOk result (λ n. n ≤ length buffer.old) }

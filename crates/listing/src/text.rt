@@ -35,10 +35,7 @@ impl Text {
         ensures text { self.new ≡ self.old ++ part.now }
         ensures len { length self.new ≡ length self.old + length part.now }
     {
-        // there is room by `requires`
-        if self.bytes.try_extend_from_slice(part).is_err() {
-            unreachable!();
-        }
+        self.bytes.try_extend_from_slice(part).unwrap();
     }
 
     // Adds a number in decimal digits.
@@ -56,6 +53,7 @@ impl Text {
         ensures { Copied self.now output.old result output.new }
     {
         let n = self.bytes.len();
+        // tested by hand, since nothing is proved of what is written through `get_mut`
         if output.len() < n {
             return None;
         }

@@ -1,4 +1,4 @@
-// The theory of the node: tasks, demand, bounds, slots, histories, the deadline theorem and the worked cases.
+// The theory of the node: tasks, demand, bounds, slots, histories, the deadline theorem and the worked cases; and what calls take and answer.
 #![tactic(auto)]
 
 pub mod cases;

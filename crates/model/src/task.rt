@@ -1,6 +1,6 @@
 // One task of a table, as the analysis and the node see it.
 
-#[derive(Clone, Copy, Debug, PartialEq, Eq)]
+#[derive(Clone, Copy, Debug, Default, PartialEq, Eq)]
 pub struct Task {
     // processor units of a full job
     pub units: u16,

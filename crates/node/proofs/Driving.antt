@@ -4,6 +4,8 @@
 --   takes_append     takes one after the other
 --   driven_more      one order more; driven_here, marks_more, with the amounts of its slots
 use Rattle.std.proofs.Common.{◌≡◌, ℕ, zero, suc, ◌+◌, ◌<◌, ◌≤◌, Bool, true, false, cond, eqb, ltb, List, [], ◌∷◌, ◌++◌, length, get_or, take, drop, set, Some, None, Option, sym, refl, ap, ◌∙◌, subst, append_assoc, arith}
+use Rattle.std.specs.List.{filter}
+use Rattle.std.specs.Prelude.{◌==◌, not}
 use Rattle.std.proofs.lemmas.List.{take_more_set, drop_more, drop-set-lt}
 use Rattle.std.proofs.lemmas.Bool.{le-ltb}
 use Rattle.model.specs.declared.refusal.Refusal.{Refusal}
@@ -73,6 +75,15 @@ pub takes_append : {H : Type 0} (coming : H → ℕ) (taken : H → H → Type 0
     Takes coming taken m ys g → Takes coming taken h (xs ++ ys) g
 takes_append coming taken [] ys h m g a b = subst (λ x. Takes coming taken x ys g) a b
 takes_append coming taken (x ∷ xs) ys h m g a b = (a.0, a.1, a.2, takes_append coming taken xs ys a.1 m g a.3 b)
+
+counted : (done : Bool) (o : Order) (rest : List Order) (k : ℕ) → length rest ≡ k → length (cond (not done) (o ∷ rest) rest) ≡ cond done 0 1 + k
+counted true o rest k e = omega (arith, e)
+counted false o rest k e = omega (arith, e)
+
+-- the orders whose mark is not 0 are counted as refused
+pub refusals_counted : (os : List Order) → length (filter (λ o. not (o.mark == 0)) os) ≡ refusals os
+refusals_counted [] = refl
+refusals_counted (o ∷ os) = counted (o.mark == 0) o (filter (λ p. not (p.mark == 0)) os) (refusals os) (refusals_counted os)
 
 refusals_push : (os : List Order) (o : Order) → refusals (os ++ (o ∷ [])) ≡ refusals os + refusals (o ∷ [])
 refusals_push [] o = omega arith

@@ -1,4 +1,4 @@
--- What the code answers to a release, in the words of its definition.
+-- What the code answers to an order, in the words of its definition.
 use Rattle.std.specs.Prelude.{Some, None, Ok, Err, Option, Result}
 use Rattle.model.specs.declared.refusal.Refusal.{Refusal}
 

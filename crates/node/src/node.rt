@@ -1,5 +1,6 @@
 // The node, whose type says that its state was reached by a history of its table.
-ghost use Rattle.std.specs.Prelude.{◌≡◌, ℕ, ◌<◌, ◌≤◌, ◌≢◌, length, slice_index_or, Some, None, Ok, Err};
+ghost use Rattle.std.specs.Prelude.{◌≡◌, ◌==◌, ℕ, ◌<◌, ◌≤◌, ◌≢◌, length, not, slice_index_or, Some, None, Ok, Err};
+ghost use Rattle.std.specs.List.{filter};
 ghost use Rattle.model.specs.declared.refusal.Refusal.TheVariants.{PromiseTooLow};
 ghost use Rattle.model.specs.Windows.{Accepted};
 ghost use Rattle.model.specs.Energy.{Harvest, LawfulLevel};
@@ -41,7 +42,7 @@ pub struct Node<H> {
 }
 
 // What a refused start gives back.
-#[derive(Debug, PartialEq, Eq, Drop)]
+#[derive(Debug, Drop, PartialEq, Eq)]
 pub struct NotStarted<H> {
     pub refusal: Refusal,
     pub harvester: H,
@@ -157,7 +158,7 @@ impl<H: Harvester> Node<H> {
         Ok(())
     }
 
-    // Why a number of slots is refused, if it is: an Option, since asking can not fail.
+    // Why a number of slots is refused, if it is: an Option, since asking cannot fail.
     pub fn slots_refused(&self, count: u32) -> Option<Refusal>
         ensures { result ≡ slots_refusal (setup_of self.now.table) (H.Harvester.promised self.now.harvester)
             self.now.state count }
@@ -303,7 +304,7 @@ impl<H: Harvester> Node<H> {
         Ok(())
     }
 
-    // Does each order in turn, marks it, and says how many were refused, counted in the walk that marks.
+    // Does each order in turn, marks it, and says how many were refused.
     pub fn drive(&mut self, orders: &mut [Order]) -> usize
         ensures driven { Driven (setup_of self.old.table) (H.Harvester.promised self.old.harvester)
             self.old.state orders.old orders.new self.new.state }
@@ -316,15 +317,11 @@ impl<H: Harvester> Node<H> {
         ensures promise { H.Harvester.promised self.new.harvester ≡ H.Harvester.promised self.old.harvester }
         ensures paid { self.old.table.rate ≤ H.Harvester.promised self.old.harvester → Unmarked 9 orders.new }
     {
-        let mut refused = 0usize;
         'each: for order in orders.iter_mut() {
             // 0, or the fixed number of the refusal
             order.mark = self.obey(order.ask).err().map_or(0, Refusal::number);
-            if order.mark != 0 {
-                refused += 1;
-            }
         }
-        refused
+        refused(orders)
     }
 
     // The state so far. Each closed job of an accepted table was finished by its deadline, and within its task's safe bound.
@@ -336,6 +333,13 @@ impl<H: Harvester> Node<H> {
     {
         Report::from(&self.state)
     }
+}
+
+// How many orders are marked as refused.
+fn refused(orders: &[Order]) -> usize
+    ensures { result ≡ length (filter (λ (o : Order). not (o.mark == 0)) orders.now) }
+{
+    orders.iter().filter(|order| order.mark != 0).count()
 }
 
 // What a harvester brings in the coming slot: it is taken from once.

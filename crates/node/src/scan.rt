@@ -48,7 +48,7 @@ pub(crate) fn expire(clock: u32, tasks: &[Task], lines: &mut [Line]) -> u8
     ensures count { result ≡ abandoned clock tasks.now lines.old }
 {
     let mut count = 0u8;
-    // a line is reached by its index, since nothing is proved of what is written through an adapter of iter_mut
+    // a line is reached by its index, since nothing is proved of what is written through a zip of `iter_mut`
     'each: for (i, task) in tasks.iter().enumerate() {
         if let Line::Open { released, .. } = lines[i] {
             if due_clock(released, task) == u64::from(clock) {

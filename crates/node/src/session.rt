@@ -23,7 +23,8 @@ pub fn run_orders<H: Harvester + Drop>(
 ) -> Result<Report, Refusal>
     ensures cases { elim result [
       | Err e ↦ IsNotStarted (setup_of table) (H.Harvester.promised harvester) level e × (orders.new ≡ orders.old)
-      | Ok report ↦ (table.rate ≤ H.Harvester.promised harvester) × Unmarked 9 orders.new × (Accepted table.rate (task_list table) → report.closed ≡ report.finished)
+      | Ok report ↦ (table.rate ≤ H.Harvester.promised harvester) × Unmarked 9 orders.new
+          × (Accepted table.rate (task_list table) → report.closed ≡ report.finished)
     ] }
     ensures session { elim result [
       | Err e ↦ Unit {0}

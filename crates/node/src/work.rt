@@ -8,7 +8,7 @@ use crate::turn::{Job, Turn};
 use model::slot::{Activity, Progress};
 use model::state::{Line, State};
 
-// One unit of a job; its last one closes the job and notes the response.
+// One unit of a job; its last one closes the job and notes the response. Here and below limits are asked for, as a state without its table has none.
 fn run_unit(job: &Job, state: &mut State) -> Progress
     requires place { job.now.index < 16 }
     requires since { job.now.since ≤ state.old.clock }

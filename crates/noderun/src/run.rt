@@ -36,7 +36,7 @@ pub(crate) fn run<H: Harvester + Drop>(
     let node = match Node::start(plan.table, plan.level, harvester) {
         Ok(node) => node,
         Err(refused) => {
-            writeln!(out, "start refused {}", refused.refusal.number())?;
+            writeln!(out, "start refused {}", refused.refusal)?;
             out.flush()?;
             return Ok(ExitCode::FAILURE);
         }
@@ -91,7 +91,7 @@ impl<H: Harvester, W: Write> Session<H, W> {
         Ok(status)
     }
 
-    // Does one order, and prints it with its outcome and its slots. Its two forms are the enum that was read and is printed.
+    // Does one order, and prints it with its outcome and its slots. A match on its form, which was read and is printed too.
     fn obey(&mut self, ask: Ask) -> anyhow::Result<()> {
         self.orders = self.orders.saturating_add(1);
         let number = self.orders;
@@ -117,7 +117,7 @@ impl<H: Harvester, W: Write> Session<H, W> {
     fn show_slots(&mut self, count: u32) -> anyhow::Result<()> {
         let start = u64::from(self.node.report().clock);
         for clock in start..start + u64::from(count) {
-            let answer = self.node.slot().ok().context("a slot is refused")?;
+            let answer = self.node.slot().context("a slot is refused")?;
             writeln!(self.out, "slot {clock} {answer}")?;
         }
         Ok(())

@@ -8,14 +8,15 @@ use harvest::converter::Converter;
 use harvest::pair::Pair;
 use harvest::steady::Steady;
 use harvest::trace::Trace;
+use input::MOST_BYTES;
 use std::process::ExitCode;
 use table::load::load;
 use table::table::Table;
 
-// Loads the table and runs the node over its harvester. A table file has at most 1,024 bytes.
+// Loads the table and runs the node over its harvester.
 pub(crate) fn serve(rt: &HostRuntime, request: &Request) -> anyhow::Result<ExitCode> {
     let path = request.table.as_str();
-    let mut buffer = [0u8; 1024];
+    let mut buffer = [0u8; MOST_BYTES];
     // told here, since an error of anyhow would cut a long path short
     let file = match read_file(rt, path, &mut buffer) {
         Ok(file) => file,

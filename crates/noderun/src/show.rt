@@ -44,6 +44,7 @@ pub(crate) fn show_report<W: Write>(out: &mut W, plan: &Plan, report: &Report) -
     let lines = table.names().iter().zip(longest).zip(&verdict.bounds);
     for (number, ((name, longest), bounds)) in (1u8..).zip(lines) {
         write!(out, "task {number} ")?;
+        // a name is bytes, and only text can be formatted
         out.write_all(name.as_bytes())?;
         let longest = Slots(*longest);
         let bound = Slots(bounds.safe.window);

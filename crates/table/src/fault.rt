@@ -12,7 +12,7 @@ pub struct LoadFault {
 
 impl fmt::Display for LoadFault {
     fn fmt<W: fmt::Write>(&self, f: &mut fmt::Formatter<W>) -> fmt::Result {
-        write!(f, "refused {} at {}", self.refusal.number(), self.at)
+        write!(f, "refused {} at {}", self.refusal, self.at)
     }
 }
 

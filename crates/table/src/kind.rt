@@ -4,7 +4,7 @@ ghost use Rattle.table.specs.Kinds.{NamesKind};
 use model::refusal::Refusal;
 
 #[derive(Clone, Copy, Debug, PartialEq, Eq)]
-pub enum Kind {
+pub(crate) enum Kind {
     Node,
     Task,
 }

@@ -2,7 +2,7 @@
 #![tactic(auto)]
 
 use anyhow::{Context, bail};
-use input::{finish, read_front};
+use input::{MOST_BYTES, finish, read_front};
 use listing::list::listing;
 use std::env;
 use std::io::Write;
@@ -40,12 +40,10 @@ fn answer(rt: &HostRuntime) -> anyhow::Result<ExitCode> {
 
 // Lists the table on standard input.
 fn check(rt: &HostRuntime) -> anyhow::Result<ExitCode> {
-    let mut buffer = [0u8; 1024];
+    let mut buffer = [0u8; MOST_BYTES];
     let file = read_front(&mut rt.stdin(), &mut buffer)?;
     let mut output = [0u8; 1024];
-    let listed = listing(file, &mut output)
-        .ok()
-        .context("the listing does not fit")?;
+    let listed = listing(file, &mut output).context("the listing does not fit")?;
     rt.write_all(&output[..listed.length])?;
     Ok(if listed.accepted {
         ExitCode::SUCCESS

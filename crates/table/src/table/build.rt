@@ -1,4 +1,4 @@
-// Making a table and reading what it holds; specs that name the table are cited here and not beside its type.
+// Making a table.
 ghost use Rattle.std.specs.Prelude.{◌≡◌, ◌↔◌, IsTrue, MatchResult};
 ghost use Rattle.model.specs.declared.refusal.Refusal.TheVariants.{OutsideLimits};
 ghost use Rattle.model.specs.Tasks.{Sized, Timed};
@@ -37,17 +37,11 @@ impl Table {
         if !(1..=1_000_000_000).contains(&rate) || floor > cap || cap > 8_000_000_000 {
             return Err(Refusal::OutsideLimits);
         }
-        let none = Task {
-            units: 0,
-            period: 0,
-            deadline: 0,
-            draw: 0,
-        };
         Ok(Table {
             rate,
             floor,
             cap,
-            tasks: [none; 16],
+            tasks: [Task::default(); 16],
             names: [Name::NONE; 16],
             count: 0,
         })

@@ -6,9 +6,8 @@ use Rattle.model.proofs.Forgetting.{drive_told}
 use Rattle.table.specs.Tables.{setup_of}
 use Rattle.node.specs.Marks.{refusals, no_order}
 use Rattle.node.specs.Outcomes.{refusal_said}
-use Rattle.node.proofs.Driving.{rest_more, refusals_more, driven_here, marks_more, takes_append, driven_asks, driven_not_9}
+use Rattle.node.proofs.Driving.{rest_more, refusals_counted, driven_here, marks_more, takes_append, driven_asks, driven_not_9}
 use Rattle.node.proofs.node.Node.drive.Goals as goal
-use Rattle.node.proofs.node.Node.drive.Goals.{then-order-ne0, else-order-ne0}
 
 pub each-preserved : goal.each-preserved
 each-preserved g c =
@@ -21,12 +20,6 @@ each-preserved g c =
     let promised = g.H.Harvester.promised in
     let lt₀ : i < length os₀ = omega arith in
     let lt : i < length os = omega arith in
-    let n = refusals_more os₀ os i m lt₀ lt inv.4 in
-    let count : c.if-order-ne0.refused ≡ c.each.refused + cond (eqb m 0) 0 1 =
-    elim c.if-order-ne0.branch [
-      | then-order-ne0 w ↦ let b : eqb m 0 ≡ false = grind (arith, nat_tests) in rw b w.refused-is
-      | else-order-ne0 w ↦ let b : eqb m 0 ≡ true = grind (arith, nat_tests) in rw b (w.refused-is ∙ omega arith)
-    ] in
     let ask = (get_or os i no_order).ask in
     let to = c.obey.new.self.state in
     let did = c.obey.ensures.taking in
@@ -37,31 +30,68 @@ each-preserved g c =
     (subst (λ p. ObeyedBy (setup_of c.each.self.table) p c.each.self.state ask x did.0 to) inv.1 did.1) in (
       c.obey.ensures.table ∙ inv.0,
       c.obey.ensures.promise ∙ inv.1,
-      count ∙ (ap (λ k. k + cond (eqb m 0) 0 1) inv.2 ∙ sym n),
-      search rules,
-      rest_more os₀ os i m lt₀ lt inv.4,
+      rest_more os₀ os i m lt₀ lt inv.2,
       λ ps later u last rest takes.
-          let here = driven_here os₀ os i m lt₀ lt inv.4 _ _ _ _ x did.0 (search rules) ob ps later u rest in
-          let whole = inv.5 _ _ u last here (takes_append coming taken did.0 later _ _ last did.2 takes) in
-          rw (sym (marks_more os₀ os i m lt₀ lt inv.4 ps)) whole,
+          let here = driven_here os₀ os i m lt₀ lt inv.2 _ _ _ _ x did.0 (search rules) ob ps later u rest in
+          let whole = inv.3 _ _ u last here (takes_append coming taken did.0 later _ _ last did.2 takes) in
+          rw (sym (marks_more os₀ os i m lt₀ lt inv.2 ps)) whole,
     )
 
-pub returns : goal.returns
-returns g c =
+pub returns-clause-driven : goal.returns-clause-driven
+returns-clause-driven g c =
     let inv = c.each.invariant in
     let os₀ = c.args.orders.now in
     let os = c.each.orders in
     let all : take c.each.order-index os ≡ os = take_all _ os (omega arith) in
     let none : drop c.each.order-index os₀ ≡ [] = drop_all _ os₀ (omega arith) in
-    let whole = inv.5 [] [] c.each.self.state c.each.self.harvester (rw none (stop_by c.each.self.state)) refl in
+    let whole = inv.3 [] [] c.each.self.state c.each.self.harvester (rw none (stop_by c.each.self.state)) refl in
     let d = rw (all, append-nil) at whole in
     let told = drive_told _ _ d.1 in
-    record {
-      driven = told;
-      taking = d;
-      asks = driven_asks _ _ _ _ _ _ told;
-      count = inv.2 ∙ ap refusals all;
-      table = inv.0;
-      promise = inv.1;
-      paid = λ enough. driven_not_9 _ _ enough _ _ _ _ told;
-    }
+    told
+
+pub returns-clause-taking : goal.returns-clause-taking
+returns-clause-taking g c =
+    let inv = c.each.invariant in
+    let os₀ = c.args.orders.now in
+    let os = c.each.orders in
+    let all : take c.each.order-index os ≡ os = take_all _ os (omega arith) in
+    let none : drop c.each.order-index os₀ ≡ [] = drop_all _ os₀ (omega arith) in
+    let whole = inv.3 [] [] c.each.self.state c.each.self.harvester (rw none (stop_by c.each.self.state)) refl in
+    let d = rw (all, append-nil) at whole in
+    let told = drive_told _ _ d.1 in
+    d
+
+pub returns-clause-asks : goal.returns-clause-asks
+returns-clause-asks g c =
+    let inv = c.each.invariant in
+    let os₀ = c.args.orders.now in
+    let os = c.each.orders in
+    let all : take c.each.order-index os ≡ os = take_all _ os (omega arith) in
+    let none : drop c.each.order-index os₀ ≡ [] = drop_all _ os₀ (omega arith) in
+    let whole = inv.3 [] [] c.each.self.state c.each.self.harvester (rw none (stop_by c.each.self.state)) refl in
+    let d = rw (all, append-nil) at whole in
+    let told = drive_told _ _ d.1 in
+    driven_asks _ _ _ _ _ _ told
+
+pub returns-clause-table : goal.returns-clause-table
+returns-clause-table g c =
+    c.each.invariant.0
+
+pub returns-clause-promise : goal.returns-clause-promise
+returns-clause-promise g c =
+    c.each.invariant.1
+
+pub returns-clause-paid : goal.returns-clause-paid
+returns-clause-paid g c =
+    let inv = c.each.invariant in
+    let os₀ = c.args.orders.now in
+    let os = c.each.orders in
+    let all : take c.each.order-index os ≡ os = take_all _ os (omega arith) in
+    let none : drop c.each.order-index os₀ ≡ [] = drop_all _ os₀ (omega arith) in
+    let whole = inv.3 [] [] c.each.self.state c.each.self.harvester (rw none (stop_by c.each.self.state)) refl in
+    let d = rw (all, append-nil) at whole in
+    let told = drive_told _ _ d.1 in
+    λ enough. driven_not_9 _ _ enough _ _ _ _ told
+
+pub returns-clause-count : goal.returns-clause-count
+returns-clause-count g c = c.refused.ensures ∙ refusals_counted _

@@ -4,7 +4,6 @@ use Rattle.model.specs.declared.order.Order.{Order}
 use Rattle.model.specs.Amounts.{DrivenBy}
 use Rattle.harvest.specs.Takes.{Takes, Taking}
 use Rattle.table.specs.Tables.{setup_of}
-use Rattle.node.specs.Marks.{refusals}
 use Rattle.node.proofs.node.Node.drive.Given as goal
 
 -- Whatever the orders that are left give from here, all the orders give from the start.
@@ -12,8 +11,6 @@ abbrev pub invariant-each : goal.invariant-each
 invariant-each g l =
     (l.self.table ≡ l.initial.self.table)
     × (g.H.Harvester.promised l.self.harvester ≡ g.H.Harvester.promised l.initial.self.harvester)
-    × (l.refused ≡ refusals (take l.order-index l.orders))
-    × (l.refused ≤ l.order-index)
     × (drop l.order-index l.orders ≡ drop l.order-index l.initial.orders)
     × ((ps : List Order) (later : List ℕ) (t : State) (last : g.row.H.Denot) →
     DrivenBy (setup_of l.initial.self.table) (g.H.Harvester.promised l.initial.self.harvester) l.self.state
