@@ -113,6 +113,7 @@ impl<H: Harvester> Node<H> {
         ensures harvester { self.new.harvester ≡ self.old.harvester }
     {
         let tasks = self.table.tasks();
+        // a test of a range, since `checked_sub` and `get` would leave with the same refusal twice
         let number = usize::from(task);
         if !(1..=tasks.len()).contains(&number) {
             return Err(Refusal::NoSuchTask);
@@ -224,7 +225,7 @@ impl<H: Harvester> Node<H> {
         ensures table { self.new.table ≡ self.old.table }
         ensures promise { H.Harvester.promised self.new.harvester ≡ H.Harvester.promised self.old.harvester }
     {
-        let harvest = bring(&mut self.harvester);
+        let harvest = self.harvester.take();
         self.advance(harvest)
     }
 
@@ -340,13 +341,4 @@ fn refused(orders: &[Order]) -> usize
     ensures { result ≡ length (filter (λ (o : Order). not (o.mark == 0)) orders.now) }
 {
     orders.iter().filter(|order| order.mark != 0).count()
-}
-
-// What a harvester brings in the coming slot: it is taken from once.
-fn bring<H: Harvester>(harvester: &mut H) -> u32
-    ensures amount { result ≡ H.Harvester.coming harvester.old }
-    ensures once { H.Harvester.taken harvester.old harvester.new }
-    ensures same { H.Harvester.promised harvester.new ≡ H.Harvester.promised harvester.old }
-{
-    harvester.take()
 }
