@@ -8,6 +8,7 @@ use crate::verdict::Bound;
 pub(crate) trait Curve {
     ghost value: { Self → ℕ → ℕ };
 
+    // A window is a number that is asked to be in range, as a type for it would be opened for every sum.
     fn at(&self, window: u32) -> u64
         requires { (1 ≤ window) × (window ≤ 100000) }
         ensures { result ≡ value self.now window };

@@ -36,6 +36,7 @@ impl Store {
         ensures bounds { (result.floor ≡ self.floor) × (result.cap ≡ self.cap) }
     {
         let full = self.level + u64::from(harvest) - draw;
+        // field by field, since `..self` is refused where a type has ghost fields
         Store {
             level: full.min(self.cap),
             floor: self.floor,

@@ -93,6 +93,7 @@ impl<H: Harvester, W: Write> Session<H, W> {
 
     // Does one order, and prints it with its outcome and its slots. A match on its form, which was read and is printed too.
     fn obey(&mut self, ask: Ask) -> anyhow::Result<()> {
+        // counted here, since a line that is no order has no number among the orders
         self.orders = self.orders.saturating_add(1);
         let number = self.orders;
         if self.quiet {
