@@ -3,7 +3,7 @@
 --   driven_not_9     no mark is 9 where the harvester promises the rate
 --   takes_append     takes one after the other
 --   driven_more      one order more; driven_here, marks_more, with the amounts of its slots
-use Rattle.std.proofs.Common.{◌≡◌, ℕ, zero, suc, ◌+◌, ◌<◌, ◌≤◌, Bool, true, false, cond, eqb, ltb, List, [], ◌∷◌, ◌++◌, length, get_or, take, drop, set, Some, None, Option, sym, refl, ap, ◌∙◌, subst, append_assoc, arith}
+use Rattle.std.proofs.Common.{◌≡◌, ℕ, zero, suc, ◌+◌, ◌<◌, ◌≤◌, Bool, true, false, cond, ltb, List, [], ◌∷◌, ◌++◌, length, get_or, take, drop, set, Some, None, Option, sym, refl, ap, ◌∙◌, subst, append_assoc, arith}
 use Rattle.std.specs.List.{filter}
 use Rattle.std.specs.Prelude.{◌==◌, not}
 use Rattle.std.proofs.lemmas.List.{take_more_set, drop_more, drop-set-lt}
@@ -85,11 +85,6 @@ pub refusals_counted : (os : List Order) → length (filter (λ o. not (o.mark =
 refusals_counted [] = refl
 refusals_counted (o ∷ os) = counted (o.mark == 0) o (filter (λ p. not (p.mark == 0)) os) (refusals os) (refusals_counted os)
 
-refusals_push : (os : List Order) (o : Order) → refusals (os ++ (o ∷ [])) ≡ refusals os + refusals (o ∷ [])
-refusals_push [] o = omega arith
-refusals_push (p ∷ os) o = let e = refusals_push os o in omega arith
-
--- one order more: os are the orders so far, the first i of them marked, and os₀ the orders as they were
 module _ (os₀ os : List Order) (i m : ℕ) (lt₀ : i < length os₀) (lt : i < length os) (same : drop i os ≡ drop i os₀) where
   order_same : get_or os i no_order ≡ get_or os₀ i no_order
   order_same = let a = drop_more os i no_order lt in let b = drop_more os₀ i no_order lt₀ in cc
@@ -100,9 +95,6 @@ module _ (os₀ os : List Order) (i m : ℕ) (lt₀ : i < length os₀) (lt : i 
       let b = drop_more os₀ i no_order lt₀ in
       let d = drop-set-lt (i + 1) os i (marked (get_or os i no_order) m) (omega arith) in
       cc
-
-  pub refusals_more : refusals (take (i + 1) (set os i (marked (get_or os i no_order) m))) ≡ refusals (take i os) + cond (eqb m 0) 0 1
-  refusals_more = rw take_more_set (refusals_push (take i os) (marked (get_or os i no_order) m) ∙ omega arith)
 
   pub driven_more : (n : Setup) (promise : ℕ) (s₀ s t : State) (x : Option Refusal) → m ≡ mark_of x →
       Obeyed n promise s (get_or os i no_order).ask x t →

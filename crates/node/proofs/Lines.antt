@@ -9,7 +9,7 @@
 --   walked_by, walked_due   one line more, kept or shut
 --   walked_from       a walk may start where the open jobs begin
 use Rattle.std.proofs.Common.{◌≡◌, ℕ, zero, suc, ◌+◌, ◌<◌, ◌≤◌, true, false, cond, ◌≢◌, List, ◌∷◌, ◌++◌, length, min, get_or, take, drop, set, Some, None, ⊎_elim, [], sym, refl, ap, ◌∙◌, subst, append_assoc, add-one, arith, get_or-set_other}
-use Rattle.std.proofs.lemmas.List.{take_more_set, drop_more, drop-set-lt, drop_all, set-get_or, get_or_default, get_or_past}
+use Rattle.std.proofs.lemmas.List.{take_more_set, drop_more, drop-set-lt, drop_all, set-get_or, get_or_default}
 use Rattle.std.proofs.lemmas.Bool.{cases_lt}
 use Rattle.std.proofs.lemmas.List.FromFn.{length-enumerate_from, get_or-enumerate_from}
 use Rattle.std.proofs.lemmas.Slice.Zip.{length-zip, get_or-zip}
@@ -61,14 +61,6 @@ candidate_end number ts ls i h =
     (λ lt. rw (drop_all i ls (omega (arith, h))) (no_line number (drop i ts)))
     (λ le. rw (drop_all i ts (omega (arith, h))))
     (cases_lt (length ls) (length ts))
-
--- an open line is one of the lines
-pub open_within : (ls : List Line) (k r u d : ℕ) → get_or ls k Never ≡ Open r u d → k < length ls
-open_within ls k r u d e =
-    ⊎_elim
-    (λ lt. lt)
-    (λ le. let past = get_or_past ls k Never le in let z : ◌≡◌ {A = ℕ} 0 1 = cc in absurd (omega arith))
-    (cases_lt k (length ls))
 
 -- the task and the line at a place of a walk over both
 pub pair_at : (ts : List Task) (ls : List Line) (k i : ℕ) (t : Task) (l : Line) → k < length (enumerate_from 0 (zip ts ls)) →

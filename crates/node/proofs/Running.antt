@@ -1,27 +1,15 @@
 -- Slots by number.
---   enough_promised   some slots that are not refused have a harvester that promises the rate
 --   slots_done, slots_denied   the two outcomes
 --   slots_done_by, slots_denied_by   the same with the amounts of the slots
 --   run_at            the same run under another count
-use Rattle.std.proofs.Common.{◌≡◌, ℕ, zero, suc, ◌≤◌, Bool, true, false, cond, ltb, List, [], length, Some, None, Option, sym, refl, subst, arith}
-use Rattle.std.proofs.lemmas.Bool.{ltb-false}
+use Rattle.std.proofs.Common.{◌≡◌, ℕ, List, [], length, Some, None, sym, subst}
 use Rattle.model.specs.declared.refusal.Refusal.{Refusal}
-use Rattle.model.specs.declared.refusal.Refusal.TheVariants.{PromiseTooLow}
 use Rattle.model.specs.declared.state.State.{State}
 use Rattle.model.specs.Setups.{Setup}
 use Rattle.model.specs.Orders.{slots_refusal, Run, Slotted, done, denied}
 use Rattle.model.specs.Amounts.{RunBy, SlottedBy, done_by, denied_by}
 
--- where no refusal is given, the first one's reason does not hold
-first_fails : (b : Bool) (r : Refusal) (o : Option Refusal) → cond b (Some r) o ≡ None → b ≡ false
-first_fails true r o e = cc
-first_fails false r o e = refl
-
 module _ (n : Setup) (promise : ℕ) where
-  pub enough_promised : (s : State) (count : ℕ) → slots_refusal n promise s count ≡ None → 1 ≤ count → n.rate ≤ promise
-  enough_promised s zero e some = absurd (omega arith)
-  enough_promised s (suc k) e some = ltb-false _ _ (first_fails (ltb promise n.rate) PromiseTooLow _ e)
-
   pub slots_done : (s : State) (count : ℕ) (t : State) → None ≡ slots_refusal n promise s count → Run n promise count s t →
       Slotted n promise count s None t
   slots_done s count t e run = done t (sym e) run

@@ -8,9 +8,6 @@ use Rattle.model.specs.Slots.{candidate}
 use Rattle.node.proofs.Lines.{pair_at, candidate_here, candidate_next, candidate_end}
 use Rattle.node.proofs.scan.candidate.Goals as goal
 
-pub open-init : goal.open-init
-open-init c = ap (λ k. candidate k c.args.tasks.now c.args.lines.now) (omega arith)
-
 pub returns-in-Open : goal.returns-in-Open
 returns-in-Open c =
     let ts = c.args.tasks.now in

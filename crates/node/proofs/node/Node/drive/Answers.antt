@@ -1,10 +1,9 @@
-use Rattle.std.proofs.Common.{◌≡◌, ◌+◌, ◌<◌, true, false, cond, eqb, [], length, get_or, take, drop, sym, refl, ap, ◌∙◌, subst, append-nil, arith, rules}
+use Rattle.std.proofs.Common.{◌≡◌, ◌<◌, [], length, get_or, take, drop, sym, refl, ◌∙◌, subst, append-nil, arith, rules}
 use Rattle.std.proofs.lemmas.List.{take_all, drop_all}
-use Rattle.std.proofs.lemmas.Bool.Decides.{nat_tests}
 use Rattle.model.specs.Amounts.{ObeyedBy, stop_by}
 use Rattle.model.proofs.Forgetting.{drive_told}
 use Rattle.table.specs.Tables.{setup_of}
-use Rattle.node.specs.Marks.{refusals, no_order}
+use Rattle.node.specs.Marks.{no_order}
 use Rattle.node.specs.Outcomes.{refusal_said}
 use Rattle.node.proofs.Driving.{rest_more, refusals_counted, driven_here, marks_more, takes_append, driven_asks, driven_not_9}
 use Rattle.node.proofs.node.Node.drive.Goals as goal
@@ -72,14 +71,6 @@ returns-clause-asks g c =
     let d = rw (all, append-nil) at whole in
     let told = drive_told _ _ d.1 in
     driven_asks _ _ _ _ _ _ told
-
-pub returns-clause-table : goal.returns-clause-table
-returns-clause-table g c =
-    c.each.invariant.0
-
-pub returns-clause-promise : goal.returns-clause-promise
-returns-clause-promise g c =
-    c.each.invariant.1
 
 pub returns-clause-paid : goal.returns-clause-paid
 returns-clause-paid g c =

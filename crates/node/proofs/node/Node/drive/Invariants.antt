@@ -1,4 +1,4 @@
-use Rattle.std.proofs.Common.{◌≡◌, ℕ, ◌≤◌, List, ◌++◌, take, drop}
+use Rattle.std.proofs.Common.{◌≡◌, ℕ, List, ◌++◌, take, drop}
 use Rattle.model.specs.declared.state.State.{State}
 use Rattle.model.specs.declared.order.Order.{Order}
 use Rattle.model.specs.Amounts.{DrivenBy}

@@ -1,12 +1,12 @@
-use Rattle.std.proofs.Common.{◌≡◌, ℕ, suc, ◌+◌, ◌-◌, ◌<◌, ◌≤◌, min, true, false, ltb, List, length, get_or, Some, sym, refl, ap, ◌∙◌, arith, rules}
+use Rattle.std.proofs.Common.{◌≡◌, ℕ, suc, ◌+◌, ◌-◌, ◌<◌, ◌≤◌, min, true, ltb, List, length, get_or, Some, sym, ap, ◌∙◌, arith, rules}
 use Rattle.std.proofs.lemmas.Bool.{lt-ltb}
-use Rattle.model.specs.declared.refusal.Refusal.TheVariants.{OutsideTask, TooEarly}
+use Rattle.model.specs.declared.refusal.Refusal.TheVariants.{TooEarly}
 use Rattle.model.specs.declared.state.Line.TheVariants.{Never}
 use Rattle.model.specs.declared.state.State.{State}
 use Rattle.model.specs.declared.task.Task.{Task}
 use Rattle.model.specs.Tasks.{no_task}
 use Rattle.model.specs.Setups.{Setup}
-use Rattle.model.specs.Releases.{clock_end, job_fits, too_early, release_refusal, release_step}
+use Rattle.model.specs.Releases.{clock_end, job_fits, too_early, release_refusal}
 use Rattle.model.proofs.Reached.{clock_of, closed_of, released_of}
 use Rattle.table.specs.Tables.{setup_of}
 use Rattle.table.proofs.Setups.{setup_lawful}
@@ -20,37 +20,9 @@ module _ (n : Setup) (s : State) (task index units draw : ℕ) (number : task �
   there : ltb index (length n.tasks) ≡ true
   there = lt-ltb _ _ listed
 
-  -- outside the task's limits it is refused, and changes nothing
-  module _ (outside : job_fits (get_or n.tasks index no_task) units draw ≡ false) where
-    refused_outside : Some OutsideTask ≡ release_refusal n s task units draw
-    refused_outside = rw (number, there, outside)
-
-    kept_outside : s ≡ release_step n s task units draw
-    kept_outside = rw (number, there, outside)
-
   refused_early : job_fits (get_or n.tasks index no_task) units draw ≡ true → s.clock < clock_end →
       too_early s.clock (get_or n.tasks index no_task) (get_or s.lines index Never) ≡ true → Some TooEarly ≡ release_refusal n s task units draw
   refused_early fits before early = let b : ltb s.clock clock_end ≡ true = lt-ltb _ _ before in rw (number, there, fits, b, early)
-
-pub returns-then-not-is_within : goal.returns-then-not-is_within
-returns-then-not-is_within g c =
-    let n = setup_of c.args.self.now.table in
-    let s = c.args.self.now.state in
-    let index = c.from-number.result - 1 in
-    let units = c.args.units in
-    let draw = c.args.draw in
-    let tasks = c.tasks-tasks.ensures.value in
-    let inside : (1 ≤ c.from-number.result) × (c.from-number.result ≤ length c.tasks-tasks.result.now) = (search rules, search rules) in
-    let number : c.args.task ≡ suc index = omega (arith, c.from-number.ensures, inside.0, inside.1) in
-    let listed : index < length n.tasks = omega (arith, ap length tasks, inside.0, inside.1) in
-    let outside : job_fits (get_or n.tasks index no_task) units draw ≡ false =
-    ap (λ (x : List Task). job_fits (get_or x index no_task) units draw) (sym tasks) ∙ sym c.if-not-is_within.ensures in
-    record {
-      refusal = refused_outside n s _ index units draw number listed outside;
-      state = kept_outside n s _ index units draw number listed outside;
-      table = refl;
-      harvester = refl;
-    }
 
 pub returns-then-is_early-clause-refusal : goal.returns-then-is_early-clause-refusal
 returns-then-is_early-clause-refusal g c =

@@ -1,25 +1,11 @@
-use Rattle.std.proofs.Common.{◌≡◌, ◌≤◌, [], ◌∷◌, length, sym, refl, ap, ◌∙◌, subst, arith}
+use Rattle.std.proofs.Common.{◌≡◌, [], ◌∷◌, length, refl, ap, ◌∙◌, subst, arith}
 use Rattle.model.specs.Energy.{Harvest}
 use Rattle.model.specs.Slots.{slot_step}
 use Rattle.model.specs.Amounts.{RunBy, over_by, next_by}
 use Rattle.model.proofs.Forgetting.{run_told}
-use Rattle.model.proofs.Reaching.{within_clock}
 use Rattle.table.specs.Tables.{setup_of}
-use Rattle.node.proofs.Running.{enough_promised, run_at}
+use Rattle.node.proofs.Running.{run_at}
 use Rattle.node.proofs.node.Node.run_slots.Goals as goal
-
-pub step-requires : goal.step-requires
-step-requires g c =
-    let inv = c.each.invariant in
-    let some : 1 ≤ c.args.count = omega arith in
-    let n = setup_of c.args.self.now.table in
-    let promise = g.H.Harvester.promised c.args.self.now.harvester in
-    let enough = enough_promised n promise c.args.self.now.state c.args.count (sym c.requires) some in
-    let room = within_clock n promise c.args.self.now.state c.args.count (sym c.requires) some in
-    (omega (arith, enough, ap (λ t. t.rate) inv.0, inv.1), omega (arith, room, inv.2))
-
-pub each-init : goal.each-init
-each-init g c = (refl, refl, omega arith, λ later t last run takes. (later, (omega arith, run), takes))
 
 pub each-preserved : goal.each-preserved
 each-preserved g c =
