@@ -42,6 +42,7 @@ fn answer(rt: &HostRuntime) -> anyhow::Result<ExitCode> {
 fn check(rt: &HostRuntime) -> anyhow::Result<ExitCode> {
     let mut buffer = [0u8; MOST_BYTES];
     let file = read_front(&mut rt.stdin(), &mut buffer)?;
+    // lent, as `listing` allocates nothing
     let mut output = [0u8; 1024];
     let listed = listing(file, &mut output).context("the listing does not fit")?;
     rt.write_all(&output[..listed.length])?;
