@@ -27,7 +27,7 @@ pub(crate) fn search<C: Curve>(curve: &C, deadline: u32) -> Bound
 {
     let mut window = 1u32;
     let mut rounds = 0u32;
-    // no `for` over the rounds, whose end no search would reach
+    // a rule of the project: the loop yields bound and rounds by `break`; a `for` over the rounds would have an end that no search reaches
     loop {
         let needed = curve.at(window);
         rounds += 1;

@@ -99,6 +99,7 @@ impl TryFrom<&[&str]> for Single {
     }
 }
 
+// An amount, which stands in three places.
 fn amount_of(word: &str) -> anyhow::Result<u32> {
     number(word).context("an amount is no number that fits")
 }

@@ -28,6 +28,7 @@ pub struct Placed<'a> {
 #[derive(Clone, Copy)]
 struct Header<'a> {
     len: u16,
+    // the number as it stands in the file, which may be that of no kind
     kind: u16,
     rest: &'a [u8],
 }
