@@ -1,1 +1,2 @@
 mod Amounts
+mod Laws

@@ -12,8 +12,6 @@ impl<P: Harvester, Q: Harvester> Harvester for Either<P, Q> {
 
     ghost taken = { SameSide P.Harvester.taken Q.Harvester.taken };
 
-    ghost lawful = { elim [ Left h ↦ P.Harvester.lawful h | Right h ↦ Q.Harvester.lawful h ] };
-
     fn promise(&self) -> u32 {
         match self {
             Either::Left(harvester) => harvester.promise(),

@@ -1,7 +1,6 @@
 // A harvester behind a converter, which lets a part of each amount through.
 ghost use Rattle.std.specs.Prelude.{◌≡◌, ◌≤◌, min};
 ghost use Rattle.model.specs.Energy.{scaled};
-ghost use Rattle.harvest.specs.Laws.{scaled_law};
 
 use crate::harvester::Harvester;
 use crate::steady::Steady;
@@ -32,8 +31,6 @@ impl<H: Harvester> Harvester for Converter<H> {
     ghost coming = { λ s. scaled (H.Harvester.coming s.inner) s.factor };
 
     ghost taken = { λ s t. H.Harvester.taken s.inner t.inner × (t.factor ≡ s.factor) };
-
-    ghost lawful = { λ s. scaled_law _ _ s.factor s.partial (H.Harvester.lawful s.inner) };
 
     fn promise(&self) -> u32 {
         scale(self.inner.promise(), self.factor)

@@ -16,14 +16,14 @@ pub trait Harvester {
 
     // What every slot brings at least.
     fn promise(&self) -> u32
-        ensures value { result ≡ promised self.now };
+        ensures value { result ≡ promised self.now }
+        ensures law { Harvest (promised self.now) (coming self.now) };
 
     // What this slot brings.
     fn take(&mut self) -> u32
         ensures amount { result ≡ coming self.old }
         ensures once { taken self.old self.new }
-        ensures same { promised self.new ≡ promised self.old };
-
-    // What each harvester proves of itself: it brings what it promises, and no more than the ceiling.
-    ghost lawful: { (h : Self) → Harvest (promised h) (coming h) };
+        ensures same { promised self.new ≡ promised self.old }
+        ensures law { Harvest (promised self.old) (coming self.old) }
+        ensures after { Harvest (promised self.new) (coming self.new) };
 }

@@ -6,5 +6,6 @@ pub mod choice;
 pub mod converter;
 pub mod harvester;
 pub mod pair;
+pub mod reading;
 pub mod steady;
 pub mod trace;

@@ -1,7 +1,6 @@
 // Two harvesters at once.
 ghost use Rattle.std.specs.Prelude.{◌≡◌};
 ghost use Rattle.harvest.specs.Samples.{joint};
-ghost use Rattle.harvest.specs.Laws.{joint_law};
 
 use crate::harvester::{CEILING, Harvester};
 
@@ -26,8 +25,6 @@ impl<P: Harvester, Q: Harvester> Harvester for Pair<P, Q> {
     ghost coming = { λ s. joint (P.Harvester.coming s.first) (Q.Harvester.coming s.second) };
 
     ghost taken = { λ s t. P.Harvester.taken s.first t.first × Q.Harvester.taken s.second t.second };
-
-    ghost lawful = { λ s. joint_law _ _ _ _ (P.Harvester.lawful s.first) (Q.Harvester.lawful s.second) };
 
     fn promise(&self) -> u32 {
         (self.first.promise() + self.second.promise()).min(CEILING)

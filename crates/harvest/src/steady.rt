@@ -30,8 +30,6 @@ impl Harvester for Steady {
 
     ghost taken = { λ s t. t.amount ≡ s.amount };
 
-    ghost lawful = { λ s. Prim.search (rules, s.limited) };
-
     fn promise(&self) -> u32 {
         self.amount
     }

@@ -1,7 +1,6 @@
 // Recorded samples, in turn and over again.
 ghost use Rattle.std.specs.Prelude.{◌≡◌, ◌-◌, ◌≤◌, length};
 ghost use Rattle.harvest.specs.Samples.{least, sample, next_index};
-ghost use Rattle.harvest.specs.Laws.{least_law};
 
 use crate::harvester::{CEILING, Harvester};
 
@@ -41,8 +40,6 @@ impl Harvester for Trace<'_> {
     ghost coming = { λ s. sample s.samples.now s.index };
 
     ghost taken = { λ s t. (t.samples.now ≡ s.samples.now) × (t.index ≡ next_index s.samples.now s.index) };
-
-    ghost lawful = { λ s. least_law s.samples.now s.index s.inside };
 
     fn promise(&self) -> u32 {
         self.low

@@ -1,5 +1,5 @@
 use Rattle.std.proofs.Common.{arith}
-use Rattle.harvest.specs.Laws.{scaled_le}
+use Rattle.harvest.proofs.Laws.{scaled_le}
 use Rattle.harvest.proofs.converter.scale.Goals as goal
 
 pub overflow_cast-result : goal.overflow_cast-result

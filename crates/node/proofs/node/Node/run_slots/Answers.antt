@@ -13,7 +13,7 @@ each-preserved g c =
     let did = c.step.ensures in
     let promise = g.H.Harvester.promised c.args.self.now.harvester in
     let amount = g.H.Harvester.coming c.each.self.harvester in
-    let law = subst (λ p. Harvest p amount) inv.1 (g.met.H.Harvester.lawful c.each.self.harvester) in
+    let law = subst (λ p. Harvest p amount) inv.1 did.brought in
     let to = did.state ∙ ap (λ t. slot_step (setup_of t) c.each.self.state amount) inv.0 in (
       did.table ∙ inv.0,
       did.promise ∙ inv.1,

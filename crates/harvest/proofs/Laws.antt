@@ -1,4 +1,4 @@
--- That harvesters bring what they promise, as laws of numbers and lists.
+-- That harvesters bring what they promise, by numbers and lists.
 --   scaled_law     what a converter lets through keeps the law of a harvester
 --   joint_law      so do two harvesters together
 --   least_law      and the samples of a list
