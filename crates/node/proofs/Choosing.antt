@@ -3,7 +3,7 @@
 --   idles, runs_it, waits_for   the turn of what was found
 --   unit_fits                a unit of the job that was found and the floor are within the cap
 --   turn_stands, turn_begins, turn_workable   where the job of a turn stands, and that none is open before it
-use Rattle.std.proofs.Common.{◌≡◌, ℕ, ◌+◌, ◌-◌, ◌<◌, ◌≤◌, Bool, true, false, cond, leb, List, length, take, drop, Some, None, Option, sym, ap, ◌∙◌, subst, arith}
+use Rattle.std.proofs.Common.{◌≡◌, ℕ, ◌+◌, ◌-◌, ◌<◌, ◌≤◌, Bool, true, false, cond, leb, List, length, take, drop, Some, None, Option, sym, ap, ◌∙◌, subst, arith, length-drop}
 use Rattle.std.proofs.lemmas.Bool.{le-leb, lt-leb}
 use Rattle.std.proofs.lemmas.List.{take_rest}
 use Rattle.model.specs.declared.task.Task.{Task}
@@ -21,7 +21,7 @@ use Rattle.node.specs.declared.turn.Turn.{Turn}
 use Rattle.node.specs.declared.turn.Turn.TheVariants.{Idle, Waits, Runs}
 use Rattle.node.specs.Ahead.{LooksAhead}
 use Rattle.node.specs.Turns.{turn_said, CandidateStands, BeginAt, Workable, turn_job}
-use Rattle.node.proofs.Lines.{candidate_from}
+use Rattle.node.proofs.Lines.{candidate_from, candidate_beside}
 use Rattle.node.proofs.Looking.{looked_of}
 
 shut_line : (l : Line) → NotOpen l → (r u d : ℕ) → l ≡ Open r u d → ⊥
@@ -87,14 +87,14 @@ module _ (n : Setup) (s : State) where
     turn_workable v e = workable_by v (turn_told v e)
 
     pub found_among_all : (a : Ahead) → ∥ LooksAhead a n.tasks s.lines ∥₁ → (ts : List Task) → ts ≡ n.tasks → (o : Option Job) →
-        o ≡ candidate a.first (take (length ts - a.first) (drop a.first ts)) (take (16 - a.first) (drop a.first s.lines)) →
+        o ≡ candidate a.first (take (length ts - a.first) (drop a.first ts)) (take (length ts - a.first) (drop a.first s.lines)) →
         o ≡ candidate 0 n.tasks s.lines
     found_among_all a looked ts same o found =
         let looks = looked_of a n.tasks s.lines looked in
         let wide = wide_of n lawful promise s reached in
         let from = candidate_from n.tasks s.lines a.first looks.0 (omega (arith, looks.0, lawful.tasked.few, wide)) looks.1 in
-        let here =
-        subst (λ w. o ≡ candidate a.first (take (length ts - a.first) (drop a.first ts)) (take (w - a.first) (drop a.first s.lines))) (sym wide) found in
-        rw (take_rest ts a.first, take_rest s.lines a.first) at here
+        let beside = candidate_beside (length ts - a.first) a.first (drop a.first ts) (drop a.first s.lines) (omega (arith, length-drop {A = Task})) in
+        let here = rw (take_rest ts a.first) at found in
+        here ∙ beside
         ∙ ap (λ x. candidate a.first (drop a.first x) (drop a.first s.lines)) same
         ∙ sym from

@@ -3,6 +3,8 @@
 --   candidate_next    and passes one that is not open
 --   candidate_from    it may start where the open jobs begin
 --   candidate_end     past the last task or line there is none
+--   candidate_beside  lines behind those of the tasks say nothing
+--   line_at           a place of a walk over the lines
 --   pair_at           a place of a walk over both
 --   none_before_worked   the unit of a turn opens no job before the turn's own
 --   Walked            a walk that abandons each job that is due, up to a line
@@ -50,6 +52,15 @@ candidate_from ts ls (suc i) h k none =
     subst (λ j. candidate 0 ts ls ≡ candidate (suc i) (drop j ts) (drop j ls)) (add-one i)
     (before ∙ candidate_next ts ls i i (omega arith) (omega arith) (none i (omega arith)))
 
+-- only as many lines as tasks count
+pub candidate_beside : (n number : ℕ) (ts : List Task) (ls : List Line) → length ts ≤ n → candidate number ts (take n ls) ≡ candidate number ts ls
+candidate_beside n number [] ls h = refl
+candidate_beside zero number (t ∷ ts) ls h = absurd (omega arith)
+candidate_beside (suc n) number (t ∷ ts) [] h = refl
+candidate_beside (suc n) number (t ∷ ts) (Never ∷ ls) h = candidate_beside n (suc number) ts ls (omega arith)
+candidate_beside (suc n) number (t ∷ ts) (Closed r ∷ ls) h = candidate_beside n (suc number) ts ls (omega arith)
+candidate_beside (suc n) number (t ∷ ts) (Open r u d ∷ ls) h = refl
+
 no_line : (number : ℕ) (ts : List Task) → candidate number ts [] ≡ None
 no_line number [] = refl
 no_line number (t ∷ ts) = refl
@@ -61,6 +72,15 @@ candidate_end number ts ls i h =
     (λ lt. rw (drop_all i ls (omega (arith, h))) (no_line number (drop i ts)))
     (λ le. rw (drop_all i ts (omega (arith, h))))
     (cases_lt (length ls) (length ts))
+
+-- the line at a place of a walk over the lines
+pub line_at : (ls : List Line) (k i : ℕ) (l : Line) → k < length (enumerate_from 0 ls) →
+    ◌≡◌ {A = ℕ × Line} (i, l) (get_or (enumerate_from 0 ls) k (i, l)) →
+    (i ≡ k) × (k < length ls) × (l ≡ get_or ls k Never)
+line_at ls k i l within same =
+    let in_ls : k < length ls = omega (arith, length-enumerate_from 0 ls) in
+    let at = same ∙ get_or-enumerate_from 0 ls k (i, l) in_ls in
+    (ap (λ p. p.0) at ∙ omega arith, in_ls, ap (λ p. p.1) at ∙ get_or_default ls k l Never in_ls)
 
 -- the task and the line at a place of a walk over both
 pub pair_at : (ts : List Task) (ls : List Line) (k i : ℕ) (t : Task) (l : Line) → k < length (enumerate_from 0 (zip ts ls)) →

@@ -168,15 +168,17 @@ impl<H: Harvester> Node<H> {
     }
 
     // What the next slot is used for: the most urgent open job runs if the level and what a slot surely brings pay for a unit of its task.
-    fn choose(&self) -> Turn
+    fn choose(&self, gain: u32) -> Turn
+        requires { gain ≡ self.now.table.rate }
         ensures { turn_said result ≡ turn_of (setup_of self.now.table) self.now.state }
     {
         let first = self.ahead.first;
-        let tasks = &self.table.tasks()[first..];
-        let Some(job) = candidate(first, tasks, &self.state.lines[first..]) else {
+        let tasks = self.table.tasks();
+        let lines = &self.state.lines[first..tasks.len()];
+        let Some(job) = candidate(first, &tasks[first..], lines) else {
             return Turn::Idle;
         };
-        if job.task.draw + self.table.floor() <= self.state.level + u64::from(self.table.rate()) {
+        if job.task.draw + self.table.floor() <= self.state.level + u64::from(gain) {
             Turn::Runs { job }
         } else {
             Turn::Waits { job }
@@ -193,7 +195,7 @@ impl<H: Harvester> Node<H> {
         ensures harvester { self.new.harvester ≡ self.old.harvester }
     {
         let store = Store::new(self.state.level, self.table.floor(), self.table.cap());
-        let turn = self.choose();
+        let turn = self.choose(self.table.rate());
         let draw = turn.draw();
         let tasks = self.table.tasks();
         self.ahead.first = turn.first_open(tasks.len());
@@ -221,6 +223,7 @@ impl<H: Harvester> Node<H> {
             slot_step (setup_of self.old.table) self.old.state (H.Harvester.coming self.old.harvester) }
         ensures answer { result ≡
             slot_answer (setup_of self.old.table) self.old.state (H.Harvester.coming self.old.harvester) }
+        ensures brought { Harvest (H.Harvester.promised self.old.harvester) (H.Harvester.coming self.old.harvester) }
         ensures once { H.Harvester.taken self.old.harvester self.new.harvester }
         ensures table { self.new.table ≡ self.old.table }
         ensures promise { H.Harvester.promised self.new.harvester ≡ H.Harvester.promised self.old.harvester }

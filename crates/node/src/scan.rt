@@ -11,10 +11,11 @@ use model::task::Task;
 // The open job of the smallest index, the indices counted from a first one. Here and below tasks and lines come as two slices, since a struct
 // of both would be needed twice: one that lends the lines and one that lets them be written.
 pub(crate) fn candidate(first: usize, tasks: &[Task], lines: &[Line]) -> Option<Job>
-    requires { first + length tasks.now ≤ 16 }
+    requires { (first + length tasks.now ≤ 16) × (length lines.now ≤ length tasks.now) }
     ensures { candidate_said result ≡ most_urgent first tasks.now lines.now }
 {
-    'open: for (i, (task, line)) in tasks.iter().zip(lines).enumerate() {
+    // over the lines alone, since a zip walks both slices in every slot; the task is looked up once
+    'open: for (i, line) in lines.iter().enumerate() {
         if let Line::Open {
             released,
             left,
@@ -23,7 +24,7 @@ pub(crate) fn candidate(first: usize, tasks: &[Task], lines: &[Line]) -> Option<
         {
             return Some(Job {
                 index: first + i,
-                task: *task,
+                task: tasks[i],
                 since: released,
                 left,
                 draw,
