@@ -1,6 +1,6 @@
 // A run: the start, the orders of standard input, and the report.
 use crate::orders::ask_of;
-use crate::show::{show_report, show_verdict};
+use crate::show::{show_order, show_report, show_verdict};
 use analysis::verdict::Verdict;
 use anyhow::Context;
 use harvest::harvester::Harvester;
@@ -99,7 +99,7 @@ impl<H: Harvester, W: Write> Session<H, W> {
         if self.quiet {
             let mut orders = [Order { ask, mark: 0 }];
             let _ = self.node.drive(&mut orders);
-            writeln!(self.out, "order {number} {}", orders[0])?;
+            show_order(&mut self.out, number, ask, orders[0].mark)?;
             return Ok(());
         }
         let refused = match ask {
@@ -107,7 +107,7 @@ impl<H: Harvester, W: Write> Session<H, W> {
             Ask::Slots { count } => self.node.slots_refused(count),
         };
         let mark = refused.map_or(0, Refusal::number);
-        writeln!(self.out, "order {number} {}", Order { ask, mark })?;
+        show_order(&mut self.out, number, ask, mark)?;
         if let (Ask::Slots { count }, None) = (ask, refused) {
             self.show_slots(count)?;
         }

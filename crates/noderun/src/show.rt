@@ -1,7 +1,7 @@
 // The lines that a run prints.
 use crate::run::Plan;
 use analysis::verdict::Verdict;
-use model::order::Report;
+use model::order::{Ask, Report};
 use std::io::Write;
 use std::{fmt, io};
 
@@ -10,6 +10,21 @@ pub(crate) fn show_verdict<W: Write>(out: &mut W, verdict: &Verdict) -> io::Resu
         writeln!(out, "table accepted")
     } else {
         writeln!(out, "table not accepted")
+    }
+}
+
+// The order and its outcome: a mark of 0, or the number of a refusal. In the pieces of `Display` the writer's buffer would be cut at
+// other bytes, and trouble told in between would stand elsewhere where both go to one file.
+pub(crate) fn show_order<W: Write>(out: &mut W, number: u32, ask: Ask, mark: u8) -> io::Result<()> {
+    match ask {
+        Ask::Release { task, units, draw } => {
+            write!(out, "order {number} release {task} {units} {draw} ")?;
+        }
+        Ask::Slots { count } => write!(out, "order {number} slots {count} ")?,
+    }
+    match mark {
+        0 => writeln!(out, "done"),
+        _ => writeln!(out, "refused {mark}"),
     }
 }
 
@@ -36,10 +51,11 @@ pub(crate) fn show_report<W: Write>(out: &mut W, plan: &Plan, report: &Report) -
         finished,
         longest,
     } = report;
-    writeln!(
+    write!(
         out,
-        "clock {clock} level {level} released {released} closed {closed} finished {finished}"
+        "clock {clock} level {level} released {released} "
     )?;
+    writeln!(out, "closed {closed} finished {finished}")?;
     let Plan { table, verdict, .. } = plan;
     let lines = table.names().iter().zip(longest).zip(&verdict.bounds);
     for (number, ((name, longest), bounds)) in (1u8..).zip(lines) {
