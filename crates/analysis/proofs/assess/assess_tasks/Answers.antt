@@ -53,4 +53,4 @@ none_behind bs n k d none count h =
 pub returns-clause-rest : goal.returns-clause-rest
 returns-clause-rest c k h =
     let count : length c.loop-index.place-items ≡ length c.args.tasks.now = omega (arith, c.requires.lawful.few, c.loop-index.auto.place-items, length-take {A = TaskBounds}) in
-    none_behind c.loop-index.place-items _ k c.default-bounds.result (search rules) count h
+    none_behind c.loop-index.place-items _ k _ (search rules) count h
