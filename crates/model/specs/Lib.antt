@@ -9,6 +9,7 @@ pub mod Energy
 pub mod Slots
 pub mod Releases
 pub mod Orders
+pub mod Shown
 pub mod Amounts
 pub mod Histories
 pub mod OnTime

@@ -1,6 +1,7 @@
 // Orders to a node, and what it reports.
-ghost use Rattle.std.specs.Prelude.{◌≡◌};
+ghost use Rattle.std.specs.Prelude.{◌≡◌, Some};
 ghost use Rattle.model.specs.Orders.{report_of};
+ghost use Rattle.model.specs.Shown.{ask_shown, order_shown};
 
 use crate::state::State;
 use std::fmt;
@@ -45,6 +46,8 @@ impl From<&State> for Report {
 }
 
 impl fmt::Display for Ask {
+    ghost output = { λ ask. Some (ask_shown ask) };
+
     fn fmt<W: fmt::Write>(&self, f: &mut fmt::Formatter<W>) -> fmt::Result {
         match self {
             Ask::Release { task, units, draw } => write!(f, "release {task} {units} {draw}"),
@@ -55,6 +58,8 @@ impl fmt::Display for Ask {
 
 // The order and its outcome.
 impl fmt::Display for Order {
+    ghost output = { λ order. Some (order_shown order) };
+
     fn fmt<W: fmt::Write>(&self, f: &mut fmt::Formatter<W>) -> fmt::Result {
         if self.mark == 0 {
             write!(f, "{} done", self.ask)

@@ -1,6 +1,7 @@
 // Why a call is refused.
-ghost use Rattle.std.specs.Prelude.{◌≡◌};
+ghost use Rattle.std.specs.Prelude.{◌≡◌, Some};
 ghost use Rattle.model.specs.Refusals.{number_of};
+ghost use Rattle.model.specs.Shown.{refusal_shown};
 
 use std::error::Error;
 use std::fmt;
@@ -51,6 +52,8 @@ impl Refusal {
 
 // A refusal is told by its number.
 impl fmt::Display for Refusal {
+    ghost output = { λ refusal. Some (refusal_shown refusal) };
+
     fn fmt<W: fmt::Write>(&self, f: &mut fmt::Formatter<W>) -> fmt::Result {
         write!(f, "{}", self.number())
     }

@@ -1,4 +1,7 @@
 // What a slot answers.
+ghost use Rattle.std.specs.Prelude.{Some};
+ghost use Rattle.model.specs.Shown.{progress_shown, activity_shown, answer_shown};
+
 use std::fmt;
 
 // How far a job that ran has come: an enum within an enum by a rule of the project, and its names say more than `Option<u32>`.
@@ -26,6 +29,8 @@ pub struct SlotAnswer {
 }
 
 impl fmt::Display for Progress {
+    ghost output = { λ progress. Some (progress_shown progress) };
+
     fn fmt<W: fmt::Write>(&self, f: &mut fmt::Formatter<W>) -> fmt::Result {
         match self {
             Progress::GoesOn => f.write_str("goes on"),
@@ -35,16 +40,24 @@ impl fmt::Display for Progress {
 }
 
 impl fmt::Display for Activity {
+    ghost output = { λ activity. Some (activity_shown activity) };
+
     fn fmt<W: fmt::Write>(&self, f: &mut fmt::Formatter<W>) -> fmt::Result {
         match self {
             Activity::Idle => f.write_str("idle"),
             Activity::Waited { task } => write!(f, "waited {task}"),
-            Activity::Ran { task, progress } => write!(f, "ran {task} {progress}"),
+            // ` goes on` and ` finished ` reach a writer as one piece each
+            Activity::Ran { task, progress } => match progress {
+                Progress::GoesOn => write!(f, "ran {task} goes on"),
+                Progress::Finished { response } => write!(f, "ran {task} finished {response}"),
+            },
         }
     }
 }
 
 impl fmt::Display for SlotAnswer {
+    ghost output = { λ answer. Some (answer_shown answer) };
+
     fn fmt<W: fmt::Write>(&self, f: &mut fmt::Formatter<W>) -> fmt::Result {
         write!(
             f,

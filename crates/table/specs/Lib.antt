@@ -9,6 +9,7 @@ pub mod Limits
 pub mod Tables
 pub mod Loading
 pub mod Outcomes
+pub mod Shown
 pub mod Files
 pub mod Laws
 pub mod Cases
