@@ -25,17 +25,17 @@ fn main(rt: HostRuntime) -> anyhow::Result<ExitCode> {
     finish(&rt, "tablecheck", answer(&rt))
 }
 
-// Does what the arguments ask for.
+// Does what the arguments ask for; they are not kept, so that no list of them can run out of memory.
 fn answer(rt: &HostRuntime) -> anyhow::Result<ExitCode> {
-    let arguments: Vec<String> = env::args(rt)?.skip(1).collect(rt.alloc())?;
-    match arguments.as_slice() {
-        [] => check(rt),
-        [word] if word.as_str() == "--help" => {
-            rt.print(HELP)?;
-            Ok(ExitCode::SUCCESS)
-        }
-        _ => bail!("unknown arguments; try tablecheck --help"),
+    let mut arguments = env::args(rt)?.skip(1);
+    let Some(word) = arguments.next() else {
+        return check(rt);
+    };
+    if word.as_str() != "--help" || arguments.next().is_some() {
+        bail!("unknown arguments; try tablecheck --help");
     }
+    rt.print(HELP)?;
+    Ok(ExitCode::SUCCESS)
 }
 
 // Lists the table on standard input.
