@@ -1,10 +1,10 @@
--- What putting the listing of a table together answers.
-use Rattle.std.specs.Prelude.{ℕ, Bool, List, Ok, Err, Result}
+-- What putting the listing of a table into a text answers and leaves.
+use Rattle.std.specs.Prelude.{◌≡◌, ℕ, Bool, List, Ok, Err, Result}
 use Rattle.table.specs.declared.fault.LoadFault.{LoadFault}
 use Rattle.table.specs.Loading.{Loads, refused}
 use Rattle.listing.specs.Listings.{Listing}
 
--- the listing of a table, or the refusal of its file
-abbrev pub TablePut : List ℕ → Result (List ℕ × Bool) LoadFault → Type 0
-TablePut file (Ok listed) = Listing file listed.0 listed.1
-TablePut file (Err f) = Loads file (refused f.refusal f.at)
+-- into an empty text: the listing of a table, or nothing where the file is refused
+abbrev pub TablePut : List ℕ → List ℕ → Result Bool LoadFault → List ℕ → Type 0
+TablePut file before (Ok accepted) after = Listing file after accepted
+TablePut file before (Err f) after = Loads file (refused f.refusal f.at) × (after ≡ before)

@@ -1,5 +1,5 @@
 // The listing of a table file.
-ghost use Rattle.std.specs.Prelude.{◌≡◌, ◌≤◌, length};
+ghost use Rattle.std.specs.Prelude.{◌≡◌, ◌≤◌, [], length};
 ghost use Rattle.table.specs.Tables.{task_list, name_list};
 ghost use Rattle.analysis.specs.Verdicts.{VerdictOf, bounds_list};
 ghost use Rattle.listing.specs.Laws.{OnlyText};
@@ -22,41 +22,44 @@ pub struct Listed {
     pub accepted: bool,
 }
 
-// The line of each task of an assessed table.
-fn lines(table: &Table, verdict: &Verdict) -> Text
-    requires { VerdictOf table.now.rate (task_list table.now) verdict.now }
-    ensures text { result ≡ lines_text (name_list table.now) (bounds_list verdict.now) }
-    ensures len { length result ≤ 736 }
-{
-    let mut text = Text::new();
-    for (name, bounds) in table.names().iter().zip(&verdict.bounds[..verdict.count]) {
-        text.put_line(name.as_bytes(), bounds);
+// A text is lent to each of these, since one that is answered takes its room on the stack in every function that it passes through.
+impl Text {
+    // The line of each task of an assessed table, into an empty text.
+    fn put_lines(&mut self, table: &Table, verdict: &Verdict)
+        requires empty { self.old ≡ [] }
+        requires bounds { VerdictOf table.now.rate (task_list table.now) verdict.now }
+        ensures text { self.new ≡ lines_text (name_list table.now) (bounds_list verdict.now) }
+        ensures len { length self.new ≤ 736 }
+    {
+        for (name, bounds) in table.names().iter().zip(&verdict.bounds[..verdict.count]) {
+            self.put_line(name.as_bytes(), bounds);
+        }
     }
-    text
-}
 
-// Loads a file and assesses its table: the listing of that table, and whether it is accepted.
-fn table_listing(file: &[u8]) -> Result<(Text, bool), LoadFault>
-    ensures { TablePut file.now result }
-{
-    let mut table = Table::empty();
-    load(file, &mut table)?;
-    let verdict = assess(&table);
-    let mut text = lines(&table, &verdict);
-    text.put_verdict(verdict.accepted);
-    Ok((text, verdict.accepted))
-}
+    // Loads a file and assesses its table: the listing of that table, into an empty text, and whether it is accepted.
+    fn put_table(&mut self, file: &[u8]) -> Result<bool, LoadFault>
+        requires { self.old ≡ [] }
+        ensures { TablePut file.now self.old result self.new }
+    {
+        let mut table = Table::empty();
+        load(file, &mut table)?;
+        let verdict = assess(&table);
+        self.put_lines(&table, &verdict);
+        self.put_verdict(verdict.accepted);
+        Ok(verdict.accepted)
+    }
 
-// The listing of a file, and whether its table is accepted.
-fn file_listing(file: &[u8]) -> (Text, bool)
-    ensures { Listing file.now result.0 result.1 }
-{
-    match table_listing(file) {
-        Ok(listed) => listed,
-        Err(fault) => {
-            let mut text = Text::new();
-            text.put_refused(fault.refusal.number(), fault.at);
-            (text, false)
+    // The listing of a file, into an empty text, and whether its table is accepted.
+    fn put_listing(&mut self, file: &[u8]) -> bool
+        requires { self.old ≡ [] }
+        ensures { Listing file.now self.new result }
+    {
+        match self.put_table(file) {
+            Ok(accepted) => accepted,
+            Err(fault) => {
+                self.put_refused(fault.refusal.number(), fault.at);
+                false
+            }
         }
     }
 }
@@ -66,7 +69,8 @@ pub fn listing(file: &[u8], output: &mut [u8]) -> Result<Listed, Refusal>
     ensures listed { ListedInto file.now output.old result output.new }
     ensures only { OnlyText file.now output.old result output.new }
 {
-    let (text, accepted) = file_listing(file);
+    let mut text = Text::new();
+    let accepted = text.put_listing(file);
     let length = text.copy_out(output).ok_or(Refusal::OutputTooShort)?;
     Ok(Listed { length, accepted })
 }

@@ -10,5 +10,5 @@ returns-in_err-length c =
 
 pub returns : goal.returns
 returns c =
-    let listed : ListedInto c.args.file.now c.args.output.now (Ok (record { length = c.in_ok-length.length; accepted = c.file_listing-text.result.1 })) c.copy_out.new.output = search rules in
+    let listed : ListedInto c.args.file.now c.args.output.now (Ok (record { length = c.in_ok-length.length; accepted = c.put_listing-accepted.result })) c.copy_out.new.output = search rules in
     record { listed = listed; only = only_listing _ _ _ (Ok _) listed }

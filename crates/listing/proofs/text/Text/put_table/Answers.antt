@@ -3,7 +3,7 @@ use Rattle.table.specs.Tables.{contents_of, name_list}
 use Rattle.analysis.specs.Verdicts.{bounds_list}
 use Rattle.listing.specs.Lines.{verdict_text}
 use Rattle.listing.specs.Listings.{Listing, of_table, lines_text}
-use Rattle.listing.proofs.list.table_listing.Goals as goal
+use Rattle.listing.proofs.text.Text.put_table.Goals as goal
 
 pub returns : goal.returns
 returns c =

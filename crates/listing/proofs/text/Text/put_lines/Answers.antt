@@ -10,7 +10,7 @@ use Rattle.analysis.specs.declared.verdict.TaskBounds.{TaskBounds}
 use Rattle.analysis.specs.Verdicts.{bounds_list}
 use Rattle.listing.specs.Listings.{task_line, lines_text, IsSmall}
 use Rattle.listing.proofs.Rows.{all_small, lines_none}
-use Rattle.listing.proofs.list.lines.Goals as goal
+use Rattle.listing.proofs.text.Text.put_lines.Goals as goal
 
 pub loop-name-init : goal.loop-name-init
 loop-name-init c =
@@ -19,9 +19,9 @@ loop-name-init c =
     let bounds : iter_rest (zip_second c.into_iter-name-iterator.result) ≡ bounds_list c.args.verdict.now = search rules in
     record {
       text = search rules;
-      len = rw (names, c.new-text.ensures) (omega (arith, lawful.few, c.names.ensures.len));
+      len = rw (names, c.requires.empty) (omega (arith, lawful.few, c.names.ensures.len));
       short = search rules;
-      small = subst (All IsSmall) (sym bounds) (all_small _ _ _ _ lawful c.requires.bounds);
+      small = subst (All IsSmall) (sym bounds) (all_small _ _ _ _ lawful c.requires.bounds.bounds);
     }
 
 pub put_line-requires-clause-small : goal.put_line-requires-clause-small
@@ -35,9 +35,9 @@ loop-name-preserved c =
     let names = c.in-Some.ensures.steps.0 in
     let bounds = c.in-Some.ensures.steps.1 in
     let before = c.loop-name.invariant in
-    let put = subst (λ name. c.put_line.new.self ≡ c.loop-name.text ++ task_line name c.in-Some.bounds.now) c.as_bytes.ensures c.put_line.ensures.text in
+    let put = subst (λ name. c.put_line.new.self ≡ c.loop-name.self ++ task_line name c.in-Some.bounds.now) c.as_bytes.ensures c.put_line.ensures.text in
     record {
-      text = line_more c.loop-name.text _ _ _ _ put (rw (names, bounds) at before.text);
+      text = line_more c.loop-name.self _ _ _ _ put (rw (names, bounds) at before.text);
       len = omega (arith, simp names at before.len);
       short = All-tail (λ n. Short (name_bytes n)) c.in-Some.name.now _ (subst (All (λ n. Short (name_bytes n))) names before.short);
       small = All-tail IsSmall _ _ (subst (All IsSmall) bounds before.small);
@@ -51,4 +51,4 @@ none_left text whole names bs (inr e) h = sym (append-nil text) ∙ (rw (e, line
 pub returns-clause-text : goal.returns-clause-text
 returns-clause-text c =
     let end = either_empty_from_Zip c.loop-name.name-iterator c.next.new.self c.next.result c.in-None.is c.next.ensures.steps in
-    none_left c.loop-name.text _ _ _ end c.loop-name.invariant.text
+    none_left c.loop-name.self _ _ _ end c.loop-name.invariant.text
