@@ -51,10 +51,7 @@ pub(crate) fn show_report<W: Write>(out: &mut W, plan: &Plan, report: &Report) -
         finished,
         longest,
     } = report;
-    write!(
-        out,
-        "clock {clock} level {level} released {released} "
-    )?;
+    write!(out, "clock {clock} level {level} released {released} ")?;
     writeln!(out, "closed {closed} finished {finished}")?;
     let Plan { table, verdict, .. } = plan;
     let lines = table.names().iter().zip(longest).zip(&verdict.bounds);
