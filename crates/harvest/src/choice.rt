@@ -1,6 +1,5 @@
 // A harvester of one of two kinds, which is known only at run time.
 ghost use Rattle.either.specs.Either.{either, SameSide};
-ghost use Rattle.either.specs.declared.Either.TheVariants.{Left, Right};
 
 use crate::harvester::Harvester;
 use either::Either;

@@ -2,7 +2,6 @@
 ghost use Rattle.std.specs.Prelude.{◌≡◌, ◌≤◌};
 ghost use Rattle.harvest.specs.Samples.{cut};
 ghost use Rattle.harvest.specs.declared.harvester.TheConstants.{CEILING};
-ghost use Rattle.std.proofs.Common.{rules};
 
 use crate::harvester::{CEILING, Harvester};
 

@@ -4,18 +4,13 @@
 --   candidate_from    it may start where the open jobs begin
 --   candidate_end     past the last task or line there is none
 --   candidate_beside  lines behind those of the tasks say nothing
---   line_at           a place of a walk over the lines
---   pair_at           a place of a walk over both
 --   none_before_worked   the unit of a turn opens no job before the turn's own
 --   Walked            a walk that abandons each job that is due, up to a line
 --   walked_by, walked_due   one line more, kept or shut
 --   walked_from       a walk may start where the open jobs begin
 use Rattle.std.proofs.Common.{◌≡◌, ℕ, zero, suc, ◌+◌, ◌<◌, ◌≤◌, true, false, cond, ◌≢◌, List, ◌∷◌, ◌++◌, length, min, get_or, take, drop, set, Some, None, ⊎_elim, [], sym, refl, ap, ◌∙◌, subst, append_assoc, add-one, arith, get_or-set_other}
-use Rattle.std.proofs.lemmas.List.{take_more_set, drop_more, drop-set-lt, drop_all, set-get_or, get_or_default}
+use Rattle.std.proofs.lemmas.List.{take_more_set, drop_more, drop-set-lt, drop_all, set-get_or}
 use Rattle.std.proofs.lemmas.Bool.{cases_lt}
-use Rattle.std.proofs.lemmas.List.FromFn.{length-enumerate_from, get_or-enumerate_from}
-use Rattle.std.proofs.lemmas.Slice.Zip.{length-zip, get_or-zip}
-use Rattle.std.specs.List.{enumerate_from, zip}
 use Rattle.model.specs.declared.task.Task.{Task}
 use Rattle.model.specs.declared.state.Line.{Line}
 use Rattle.model.specs.declared.state.Line.TheVariants.{Never, Closed, Open}
@@ -72,28 +67,6 @@ candidate_end number ts ls i h =
     (λ lt. rw (drop_all i ls (omega (arith, h))) (no_line number (drop i ts)))
     (λ le. rw (drop_all i ts (omega (arith, h))))
     (cases_lt (length ls) (length ts))
-
--- the line at a place of a walk over the lines
-pub line_at : (ls : List Line) (k i : ℕ) (l : Line) → k < length (enumerate_from 0 ls) →
-    ◌≡◌ {A = ℕ × Line} (i, l) (get_or (enumerate_from 0 ls) k (i, l)) →
-    (i ≡ k) × (k < length ls) × (l ≡ get_or ls k Never)
-line_at ls k i l within same =
-    let in_ls : k < length ls = omega (arith, length-enumerate_from 0 ls) in
-    let at = same ∙ get_or-enumerate_from 0 ls k (i, l) in_ls in
-    (ap (λ p. p.0) at ∙ omega arith, in_ls, ap (λ p. p.1) at ∙ get_or_default ls k l Never in_ls)
-
--- the task and the line at a place of a walk over both
-pub pair_at : (ts : List Task) (ls : List Line) (k i : ℕ) (t : Task) (l : Line) → k < length (enumerate_from 0 (zip ts ls)) →
-    ◌≡◌ {A = ℕ × (Task × Line)} (i, (t, l)) (get_or (enumerate_from 0 (zip ts ls)) k (i, (t, l))) →
-    (i ≡ k) × (k < length ts) × (k < length ls) × (t ≡ get_or ts k no_task) × (l ≡ get_or ls k Never)
-pair_at ts ls k i t l within same =
-    let pairs = zip ts ls in
-    let long : k < length pairs = omega (arith, length-enumerate_from 0 pairs) in
-    let in_ts : k < length ts = omega (arith, length-zip ts ls) in
-    let in_ls : k < length ls = omega (arith, length-zip ts ls) in
-    let at = same ∙ get_or-enumerate_from 0 pairs k (i, (t, l)) long in
-    let both = ap (λ p. p.1) at ∙ get_or-zip ts ls k (t, l) in_ts in_ls in
-    (ap (λ p. p.0) at ∙ omega arith, in_ts, in_ls, ap (λ p. p.0) both ∙ get_or_default ts k t no_task in_ts, ap (λ p. p.1) both ∙ get_or_default ls k l Never in_ls)
 
 -- a line at i changes nothing below it
 none_before_set : (i : ℕ) (ls : List Line) (x : Line) → NoneBefore i ls → NoneBefore i (set ls i x)
