@@ -4,7 +4,7 @@ ghost use Rattle.std.specs.List.{filter};
 ghost use Rattle.model.specs.declared.refusal.Refusal.TheVariants.{PromiseTooLow};
 ghost use Rattle.model.specs.Windows.{Accepted};
 ghost use Rattle.model.specs.Energy.{Harvest, LawfulLevel};
-ghost use Rattle.model.specs.Slots.{turn_of, slot_step, slot_answer};
+ghost use Rattle.model.specs.Slots.{candidate, turn_of, slot_step, slot_answer};
 ghost use Rattle.model.specs.Releases.{clock_end, release_refusal, release_step};
 ghost use Rattle.model.specs.Orders.{slots_refusal, Run, Slotted, Obeyed, Driven, report_of};
 ghost use Rattle.model.specs.Amounts.{RunBy, SlottedBy, ObeyedBy, DrivenBy};
@@ -14,7 +14,7 @@ ghost use Rattle.table.specs.Tables.{setup_of, task_list};
 ghost use Rattle.node.specs.Ahead.{LooksAhead};
 ghost use Rattle.node.specs.Outcomes.{refusal_said};
 ghost use Rattle.node.specs.Starts.{IsNotStarted};
-ghost use Rattle.node.specs.Turns.{turn_said};
+ghost use Rattle.node.specs.Turns.{candidate_said, turn_said};
 ghost use Rattle.node.specs.Marks.{refusals, Unmarked, no_order};
 ghost use Rattle.node.specs.Reports.{ResponsesWithin};
 
@@ -22,7 +22,7 @@ use crate::ahead::Ahead;
 use crate::release::{CLOCK_END, is_early, is_within};
 use crate::scan::{candidate, due_clock};
 use crate::store::Store;
-use crate::turn::Turn;
+use crate::turn::{Job, Turn};
 use crate::work::work;
 use harvest::harvester::Harvester;
 use model::order::{Ask, Order, Report};
@@ -167,15 +167,25 @@ impl<H: Harvester> Node<H> {
         self.check_slots(count).err()
     }
 
+    // The most urgent open job, looked for from the first line on that may be open.
+    fn most_urgent(&self) -> Option<Job>
+        ensures { candidate_said result ≡ candidate 0 (task_list self.now.table) self.now.state.lines }
+    {
+        let first = self.ahead.first;
+        let tasks = self.table.tasks();
+        candidate(
+            first,
+            &tasks[first..],
+            &self.state.lines[first..tasks.len()],
+        )
+    }
+
     // What the next slot is used for: the most urgent open job runs if the level and what a slot surely brings pay for a unit of its task.
     fn choose(&self, gain: u32) -> Turn
         requires { gain ≡ self.now.table.rate }
         ensures { turn_said result ≡ turn_of (setup_of self.now.table) self.now.state }
     {
-        let first = self.ahead.first;
-        let tasks = self.table.tasks();
-        let lines = &self.state.lines[first..tasks.len()];
-        let Some(job) = candidate(first, &tasks[first..], lines) else {
+        let Some(job) = self.most_urgent() else {
             return Turn::Idle;
         };
         if job.task.draw + self.table.floor() <= self.state.level + u64::from(gain) {
