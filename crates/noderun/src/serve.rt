@@ -51,7 +51,11 @@ fn table_of(rt: &HostRuntime, path: &str) -> anyhow::Result<Option<Table>> {
 #[inline(never)]
 fn run_over(rt: &HostRuntime, plan: &Plan, source: &Source) -> anyhow::Result<ExitCode> {
     match source {
-        Source::Alone(single) => run(rt, plan, harvester_of(single)),
+        // by its own type, as the choice of an `Either` in every slot takes longer
+        Source::Alone(single) => match harvester_of(single) {
+            Either::Left(steady) => run(rt, plan, steady),
+            Either::Right(trace) => run(rt, plan, trace),
+        },
         Source::Converter { factor, single } => {
             run(rt, plan, Converter::new(harvester_of(single), *factor))
         }
