@@ -1,11 +1,10 @@
 -- That harvesters bring what they promise, by numbers and lists.
 --   scaled_law     what a converter lets through keeps the law of a harvester
---   joint_law      so do two harvesters together
---   least_law      and the samples of a list
+--   least_law      so do the samples of a list
 use Rattle.std.specs.Prelude.{ℕ, ◌-◌, ◌<◌, ◌≤◌, min, List, [], ◌∷◌, length, get_or, fold}
 use Rattle.std.proofs.Common.{zero, suc, mul-le-mul_right, mul-le-mul_left, arith}
 use Rattle.model.specs.Energy.{Harvest, scaled}
-use Rattle.harvest.specs.Samples.{least, sample, joint}
+use Rattle.harvest.specs.Samples.{least, sample}
 
 scaled_rises : (a b n : ℕ) → a ≤ b → scaled a n ≤ scaled b n
 scaled_rises a b n h = omega (arith, mul-le-mul_right n h)
@@ -16,9 +15,6 @@ scaled_le a n h = omega (arith, mul-le-mul_left a h)
 pub scaled_law : (promise amount factor : ℕ) → factor ≤ 256 → Harvest promise amount → Harvest (scaled promise factor) (scaled amount factor)
 scaled_law promise amount factor h law =
     (scaled_rises promise amount factor law.0, omega (arith, scaled_le amount factor h, law.1))
-
-pub joint_law : (p q a b : ℕ) → Harvest p a → Harvest q b → Harvest (joint p q) (joint a b)
-joint_law p q a b first second = (omega (arith, first.0, second.0), omega arith)
 
 fold_le : (m : ℕ) (xs : List ℕ) → fold (λ a y. min a y) m xs ≤ m
 fold_le m [] = omega arith

@@ -1,6 +1,6 @@
 // What the trait asks of who writes a harvester, and what it tells a caller that knows one only at run time: worked cases.
-ghost use Rattle.std.specs.Prelude.{◌≡◌, ◌≤◌};
-ghost use Rattle.harvest.specs.declared.harvester.TheConstants.{CEILING};
+ghost use Rattle.std.specs.Prelude.{◌≡◌};
+ghost use Rattle.model.specs.Energy.{Harvest};
 
 use crate::harvester::Harvester;
 
@@ -26,16 +26,21 @@ impl Harvester for Reading {
     }
 }
 
-// What some harvester promises is no more than the ceiling.
+// The promise of a harvester that is known only at run time, and its law.
 pub fn promise_of(harvester: &dyn Harvester) -> u32
-    ensures { result ≤ CEILING }
+    ensures value { result ≡ promised harvester.now }
+    ensures law { Harvest result (coming harvester.now) }
 {
     harvester.promise()
 }
 
-// And so is what it brings.
+// What such a harvester brings: it keeps its promise, and its law holds before and after. `taken` relates two values of one type, which two values of a
+// `dyn` are not known to have, so no clause says `once` here.
 pub fn amount_of(harvester: &mut dyn Harvester) -> u32
-    ensures { result ≤ CEILING }
+    ensures amount { result ≡ coming harvester.old }
+    ensures same { promised harvester.new ≡ promised harvester.old }
+    ensures law { Harvest (promised harvester.old) result }
+    ensures after { Harvest (promised harvester.new) (coming harvester.new) }
 {
     harvester.take()
 }

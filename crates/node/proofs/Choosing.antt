@@ -1,17 +1,15 @@
 -- What a slot is used for, by a search that begins where the open jobs do.
 --   found_among_all          such a search finds what the whole search does
---   idles, runs_it, waits_for   the turn of what was found
 --   unit_fits                a unit of the job that was found and the floor are within the cap
 --   turn_stands, turn_begins, turn_workable   where the job of a turn stands, and that none is open before it
-use Rattle.std.proofs.Common.{◌≡◌, ℕ, ◌+◌, ◌-◌, ◌<◌, ◌≤◌, Bool, true, false, cond, leb, List, length, take, drop, Some, None, Option, sym, ap, ◌∙◌, subst, arith, length-drop}
-use Rattle.std.proofs.lemmas.Bool.{le-leb, lt-leb}
+use Rattle.std.proofs.Common.{◌≡◌, ℕ, ◌+◌, ◌-◌, ◌≤◌, Bool, true, false, cond, List, length, take, drop, Some, Option, sym, ap, ◌∙◌, subst, arith, length-drop}
 use Rattle.std.proofs.lemmas.List.{take_rest}
 use Rattle.model.specs.declared.task.Task.{Task}
 use Rattle.model.specs.declared.state.Line.{Line}
 use Rattle.model.specs.declared.state.Line.TheVariants.{Open}
 use Rattle.model.specs.declared.state.State.{State}
-use Rattle.model.specs.Setups.{Setup, LawfulSetup, gain}
-use Rattle.model.specs.Slots.{Job, candidate, idle, runs, waits, turn_with, turn_of}
+use Rattle.model.specs.Setups.{Setup, LawfulSetup}
+use Rattle.model.specs.Slots.{Job, candidate, runs, waits, turn_with, turn_of}
 use Rattle.model.specs.Histories.{History}
 use Rattle.model.specs.HistoryLaws.{NotOpen, MostUrgent}
 use Rattle.model.proofs.Reached.{wide_of, since_of}
@@ -34,19 +32,6 @@ module _ (n : Setup) (s : State) where
 
   first_of : (j : Job) → Some j ≡ candidate 0 n.tasks s.lines → MostUrgent n s j
   first_of j e = first_with j _ (subst (λ o. TurnSays n s (turn_with n s.level o)) (sym e) (turn_says n s))
-
-  pub idles : None ≡ candidate 0 n.tasks s.lines → idle ≡ turn_of n s
-  idles e = ap (turn_with n s.level) e
-
-  pub runs_it : (j : Job) → Some j ≡ candidate 0 n.tasks s.lines → j.task.draw + n.floor ≤ s.level + gain n → runs j ≡ turn_of n s
-  runs_it j e paid =
-      let b : leb (j.task.draw + n.floor) (s.level + gain n) ≡ true = le-leb _ _ paid in
-      sym (ap (λ x. cond x (runs j) (waits j)) b) ∙ ap (turn_with n s.level) e
-
-  pub waits_for : (j : Job) → Some j ≡ candidate 0 n.tasks s.lines → s.level + gain n < j.task.draw + n.floor → waits j ≡ turn_of n s
-  waits_for j e short =
-      let b : leb (j.task.draw + n.floor) (s.level + gain n) ≡ false = lt-leb _ _ short in
-      sym (ap (λ x. cond x (runs j) (waits j)) b) ∙ ap (turn_with n s.level) e
 
   module _ (lawful : LawfulSetup n) where
     pub unit_fits : (j : Job) → Some j ≡ candidate 0 n.tasks s.lines → j.task.draw + n.floor ≤ n.top
